@@ -1,0 +1,15 @@
+pub mod Numerals
+pub mod Pieces
+pub mod NextParts
+pub mod RowSteps
+pub mod Matrices
+pub mod EntrySteps
+pub mod HeaderValues
+pub mod WholeEntries
+pub mod NameWords
+pub mod LineWords
+pub mod RowLines
+pub mod Clear
+pub mod EntryLines
+pub mod ReadSoFar
+pub mod Places

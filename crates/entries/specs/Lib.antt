@@ -1,0 +1,15 @@
+pub mod Refusals
+pub mod Names
+pub mod Symbols
+pub mod Numbers
+pub mod Lines
+pub mod WordParts
+pub mod Headers
+pub mod Rows
+pub mod HeaderWords
+pub mod Parts
+pub mod Entries
+pub mod Readers
+pub mod HeaderReads
+pub mod Written
+pub mod EntryReaders

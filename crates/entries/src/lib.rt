@@ -1,0 +1,34 @@
+// Entry texts: what stands in them, read part by part and entry by entry, with the first fault at its place.
+mod entry_reader;
+mod header;
+mod names;
+mod numbers;
+mod part;
+mod reader;
+mod refusal;
+mod rows;
+mod symbols;
+mod words;
+
+pub use entry_reader::EntryReader;
+pub use entry_reader::MOST_CODES;
+pub use header::Header;
+pub use header::HeaderDebug;
+pub use header::HeaderPartialEq;
+pub use header::HeaderWords;
+pub use header::MOST_ROWS;
+pub use header::MOST_SYMBOLS;
+pub use names::FieldName;
+pub use names::FieldNameDebug;
+pub use names::FieldNamePartialEq;
+pub use names::WeightName;
+pub use names::WeightNameDebug;
+pub use names::WeightNamePartialEq;
+pub use part::Part;
+pub use reader::MOST_BYTES;
+pub use reader::PartReader;
+pub use refusal::TextRefusal;
+pub use refusal::TextRefusalDebug;
+pub use refusal::TextRefusalPartialEq;
+pub use symbols::symbol_code;
+pub use words::Word;
