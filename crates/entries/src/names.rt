@@ -35,7 +35,7 @@ const FIELDS: [FieldName; 7] = [
 
 impl FieldName {
     // How many elements the field has.
-    pub(crate) fn order(self) -> u8
+    pub fn order(self) -> u8
         ensures value { λ r. ⌜ r ≡ order self ⌝ }
     {
         match self {

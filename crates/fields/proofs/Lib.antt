@@ -1,0 +1,4 @@
+pub mod Finite
+pub mod Modular
+pub mod Four
+pub mod WeightLists

@@ -1,0 +1,5 @@
+pub mod Refusals
+pub mod Primes
+pub mod Fours
+pub mod Tables
+pub mod TableWeights

@@ -1,0 +1,20 @@
+-- Words over a field, codewords, independent rows, and the forms of a code.
+pub mod Scalars
+pub mod Multiples
+pub mod Words
+pub mod Combinations
+pub mod Columns
+pub mod Tuples
+pub mod Free
+pub mod Codewords
+pub mod Picking
+pub mod Reduced
+pub mod Bases
+pub mod Generators
+pub mod Series
+pub mod NewPositions
+pub mod SameCode
+pub mod RowSteps
+pub mod Independence
+pub mod ReducedSteps
+pub mod Earlier
