@@ -1,6 +1,7 @@
 // Reads entry texts from standard input and prints a line for each entry, and for the first fault.
 use entries::EntryReader;
 use entries::FieldName;
+use entries::FieldNamePartialEq;
 use entries::Header;
 use entries::MOST_BYTES;
 use entries::MOST_CODES;
@@ -19,7 +20,6 @@ use fields::SymbolWeight;
 use std::error::AnyError;
 use std::io;
 use std::io::Read;
-use entries::FieldNamePartialEq;
 
 // More entries than a text can hold.
 const TURNS: u32 = 60_001;
@@ -54,7 +54,12 @@ fn with_field(rt: &LibcRuntime, number: u32, header: Header) -> Result<(), AnyEr
 }
 
 // Takes the symbol weight that an entry names, of the field's order.
-fn with_weight<F: Field>(rt: &LibcRuntime, number: u32, header: Header, field: &F) -> Result<(), AnyError> {
+fn with_weight<F: Field>(
+    rt: &LibcRuntime,
+    number: u32,
+    header: Header,
+    field: &F,
+) -> Result<(), AnyError> {
     match header.weight {
         WeightName::Hamming => match Hamming::new(field.order()) {
             Ok(weight) => Ok(print_entry(rt, number, header, field, &weight)?),
@@ -80,7 +85,10 @@ fn print_entry<F: Field, W: SymbolWeight>(
     let claim = header.claim;
     let order = field.order().min(weight.order());
     let word = header.weight.word();
-    println!(rt, "entry {number} read: n {n} k {k} claim {claim} GF({order}) {word}")
+    println!(
+        rt,
+        "entry {number} read: n {n} k {k} claim {claim} GF({order}) {word}"
+    )
 }
 
 // The last line of a text that is refused.
