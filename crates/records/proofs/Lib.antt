@@ -1,0 +1,3 @@
+pub mod SixBytes
+pub mod TrailSteps
+pub mod Trips
