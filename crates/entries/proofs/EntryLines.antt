@@ -14,9 +14,9 @@ use Rattle.std.specs.Pieces.{rejoined}
 use Rattle.std.specs.Written.{decimal}
 use Rattle.std.specs.shelf.Lists.{All}
 use Rattle.std.specs.shelf.Text.{sameBytes}
-use Rattle.std.proofs.shelf.Decimals.{decimal-some}
+use Rattle.std.proofs.shelf.Decimals.{decimal-some, length-decimal-le}
 use Rattle.std.proofs.shelf.Equals.{sameBytes-decides}
-use Rattle.std.proofs.shelf.Lists.{length-map, length-take-le}
+use Rattle.std.proofs.shelf.Lists.{length-map, length-take-le, length-append}
 use Rattle.std.proofs.shelf.Tests.{and-parts, and-from, eqb-true, lt-ltb, cond-true}
 use Rattle.std.specs.declared.option.Option.{Option}
 use Rattle.std.specs.declared.option.Option.the-variants.{Some, None}
@@ -40,7 +40,7 @@ use Rattle.entries.proofs.Numerals.{number-word, word-number}
 use Rattle.entries.proofs.NameWords.{word-of-field, field-of-word, word-of-weight, weight-of-word, weight-goes, top-most}
 use Rattle.entries.proofs.Pieces.{Free}
 use Rattle.entries.proofs.LineWords.{line-of-words, words-of-line}
-use Rattle.entries.proofs.Clear.{Above, above-free, above-code, above-field, above-weight, above-decimal}
+use Rattle.entries.proofs.Clear.{Above, above-free, above-code, above-field, above-weight, above-decimal, above-rejoined, above-less}
 use Rattle.entries.proofs.HeaderValues.{HeaderSays, header-says, Limits, limits-of}
 use Rattle.entries.proofs.RowLines.{rows-good, rows-written}
 
@@ -94,6 +94,19 @@ some-weight : (w : WeightName) → 0 < length (weight-word w)
 some-weight Hamming = omega arith
 some-weight Lee = omega arith
 
+short-field : (f : FieldName) → length (field-word f) ≤ 6
+short-field Gf2 = omega arith
+short-field Gf3 = omega arith
+short-field Gf4 = omega arith
+short-field Gf5 = omega arith
+short-field Gf7 = omega arith
+short-field Gf11 = omega arith
+short-field Gf13 = omega arith
+
+short-weight : (w : WeightName) → length (weight-word w) ≤ 7
+short-weight Hamming = omega arith
+short-weight Lee = omega arith
+
 -- the header of a lawful entry is read from its line
 module _ (h : Header) (claims : 1 ≤ h .claim) (within : within-limits h ≡ true) (goes : goes-with (h .field) (h .weight) ≡ true) where
   limits : Limits h
@@ -137,6 +150,32 @@ module _ (h : Header) (claims : 1 ≤ h .claim) (within : within-limits h ≡ tr
   unfolding header-reading
   header-reads i =
       ap (λ (ws : List (List ℕ)). cond (header-shaped ws) (values-of ws i) (Err (HeaderShape i))) read-words ∙ cond-true (header-shaped (header-words h)) _ _ shaped ∙ values i
+
+  -- the line has no break, and is short
+  pub header-clear : Above 10 (header-line h)
+  header-clear =
+      above-rejoined 10 32 (header-words h) (omega arith) (
+        above-less (codes "code") above-code,
+        (
+          above-less (decimal (h .n)) (above-decimal (h .n) (omega (arith, limits .short))),
+          (
+            above-less (decimal (h .k)) (above-decimal (h .k) (omega (arith, limits .few))),
+            (
+              above-less (decimal (h .claim)) (above-decimal (h .claim) small-claim),
+              (above-less (field-word (h .field)) (above-field (h .field)), (above-less (weight-word (h .weight)) (above-weight (h .weight)), tt)),
+            ),
+          ),
+        ),
+      )
+
+  pub header-short : length (header-line h) ≤ 64
+  header-short =
+      let n = length-decimal-le 3 (h .n) (omega arith) (omega (arith, limits .short)) (omega (arith, limits .short)) in
+      let k = length-decimal-le 3 (h .k) (omega arith) (omega (arith, limits .few)) (omega (arith, limits .few)) in
+      let claim = length-decimal-le 3 (h .claim) (omega arith) small-claim (omega (arith, small-claim)) in
+      let field = short-field (h .field) in
+      let weight = short-weight (h .weight) in
+      simp length-append (omega arith)
 
 unless-ok : (o : Option TextRefusal) (g h : Header) → unless o g ≡ Ok (Some h) → (o ≡ None) × (g ≡ h)
 unless-ok None g h e = (refl, (cc))

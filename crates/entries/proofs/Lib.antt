@@ -13,3 +13,4 @@ pub mod Clear
 pub mod EntryLines
 pub mod ReadSoFar
 pub mod Places
+pub mod EntryTexts

@@ -10,7 +10,11 @@ use Rattle.std.specs.Pieces.{rejoined}
 use Rattle.std.specs.Written.{decimal}
 use Rattle.std.specs.shelf.Lists.{All, joined}
 use Rattle.entries.specs.declared.header.Header.{Header}
+use Rattle.std.specs.declared.option.Option.the-variants.{Some}
+use Rattle.std.specs.declared.result.Result.the-variants.{Ok}
+use Rattle.entries.specs.Lines.{lines}
 use Rattle.entries.specs.Headers.{within-limits}
+use Rattle.entries.specs.Entries.{next-entry}
 use Rattle.entries.specs.Names.{order, field-word, weight-word, goes-with}
 use Rattle.entries.specs.Rows.{row-codes}
 use Rattle.entries.specs.Symbols.{symbol-of}
@@ -64,3 +68,14 @@ Ends ls = (ls ≡ []) ⊎ (ls ≡ [] ∷ drop 1 ls)
 -- A text is these lines, each with a break after it, but for the last break, which it may lack.
 abbrev pub Lined : List ℕ → List (List ℕ) → Type 0
 Lined s ls = (text-of-lines ls ≡ s) ⊎ (text-of-lines ls ≡ s ++ 10 ∷ [])
+
+-- The text of an entry alone is cut into the entry's lines, has at most 60,000 bytes, and reads as the entry.
+pub record WrittenReadsBack (e : WrittenEntry) : Type 0 where
+  pub cut : lines (text-of-lines (entry-lines e)) ≡ entry-lines e
+  pub fits : length (text-of-lines (entry-lines e)) ≤ 60000
+  pub reads : next-entry (lines (text-of-lines (entry-lines e))) 1 ≡ Ok (Some (e .header))
+  pub entry : entry-in (e .header) (lines (text-of-lines (entry-lines e))) ≡ e
+
+-- So do all lawful entries.
+abbrev pub TextsReadBack : Type 0
+TextsReadBack = (e : WrittenEntry) → Lawful e → WrittenReadsBack e

@@ -1,6 +1,7 @@
 // Entry texts: what stands in them, read part by part and entry by entry, with the first fault at its place.
 mod entry_reader;
 mod header;
+mod laws;
 mod names;
 mod numbers;
 mod part;
@@ -18,6 +19,7 @@ pub use header::HeaderPartialEq;
 pub use header::HeaderWords;
 pub use header::MOST_ROWS;
 pub use header::MOST_SYMBOLS;
+pub use laws::written_text_reads_back;
 pub use names::FieldName;
 pub use names::FieldNameDebug;
 pub use names::FieldNamePartialEq;

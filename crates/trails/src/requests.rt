@@ -1,5 +1,5 @@
 // The words of a request.
-ghost use Prim.Native.Nat.{_<_};
+ghost use Prim.Native.Nat.{_<_, _≤_};
 ghost use Rattle.std.specs.Options.{Cases};
 use records::TrailRecord;
 use std::alloc::AllocError;
@@ -9,7 +9,9 @@ use std::alloc::Global;
 const MOST: usize = 65_536;
 
 // A number of slots or bytes.
-pub fn number_of(word: &str) -> Option<usize> {
+pub(crate) fn number_of(word: &str) -> Option<usize>
+    ensures bound { λ r. ⌜ Cases r (Unit {0}) (λ n. n ≤ 65536) ⌝ }
+{
     match word.parse::<usize>() {
         Ok(n) => { if n <= MOST { Some(n) } else { None } }
         Err(_) => None,
@@ -17,7 +19,7 @@ pub fn number_of(word: &str) -> Option<usize> {
 }
 
 // A record, `F,V,L`.
-pub fn record_of(word: &str) -> Option<TrailRecord> {
+pub(crate) fn record_of(word: &str) -> Option<TrailRecord> {
     let (form, rest) = word.split_once(',')?;
     let (visits, level) = rest.split_once(',')?;
     let Ok(form) = form.parse::<u8>() else {
@@ -37,7 +39,7 @@ pub fn record_of(word: &str) -> Option<TrailRecord> {
 }
 
 // The bytes that hexadecimal digits write, `-` for none; none where they are no such digits.
-pub fn bytes_of(heap: Global, hex: &str) -> Result<Option<Vec<u8>>, AllocError> {
+pub(crate) fn bytes_of(heap: Global, hex: &str) -> Result<Option<Vec<u8>>, AllocError> {
     let mut bytes = Vec::new(heap);
     if hex == "-" {
         return Ok(Some(bytes));
