@@ -1,0 +1,3 @@
+pub mod Pascal
+pub mod Growth
+pub mod Levels

@@ -1,0 +1,3 @@
+// Binomial numbers and the sizes of levels, as a user would ask for them.
+#[cfg(test)]
+mod sizes;
