@@ -1,3 +1,4 @@
 pub mod Pascal
 pub mod Growth
 pub mod Levels
+pub mod NextChoices

@@ -1,2 +1,4 @@
 pub mod Triangles
 pub mod Sizes
+pub mod Moves
+pub mod Choosing

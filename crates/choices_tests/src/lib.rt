@@ -1,3 +1,5 @@
-// Binomial numbers and the sizes of levels, as a user would ask for them.
+// Binomial numbers, the sizes of levels and the order of choices, as a user would ask for them.
+#[cfg(test)]
+mod order;
 #[cfg(test)]
 mod sizes;
