@@ -6,3 +6,4 @@ pub mod TableWeights
 pub mod Four
 pub mod Finite
 pub mod Modular
+pub mod Weights

@@ -3,7 +3,7 @@ ghost use Rattle.std.specs.Prelude.{◌≡◌, ◌≤◌, true, false, MatchResu
 ghost use Rattle.theory.specs.Usual.{hamming};
 ghost use Rattle.fields.specs.Tables.{in_range};
 ghost use Rattle.fields.specs.declared.refusal.FieldRefusal.TheVariants.{OrderOutside};
-ghost use Rattle.std.proofs.Common.{rules, arith};
+ghost use Rattle.fields.specs.Weights.{hamming_laws};
 
 use crate::refusal::FieldRefusal;
 use crate::weight::SymbolWeight;
@@ -31,7 +31,7 @@ impl Hamming {
 impl SymbolWeight for Hamming {
     ghost meaning = { λ w. hamming w.q };
 
-    ghost lawful = { first_of (Prim.search rules, Prim.grind (arith, Self.row.coded.inj)) };
+    ghost lawful = { λ w. hamming_laws w.q w.low w.high };
 
     fn order(&self) -> u8 {
         self.q

@@ -3,7 +3,7 @@ ghost use Rattle.std.specs.Prelude.{◌≡◌, true, false, MatchResult};
 ghost use Rattle.theory.specs.Usual.{lee};
 ghost use Rattle.fields.specs.Primes.{is_prime};
 ghost use Rattle.fields.specs.declared.refusal.FieldRefusal.TheVariants.{NotAPrime};
-ghost use Rattle.std.proofs.Common.{rules, arith};
+ghost use Rattle.fields.specs.Weights.{lee_laws};
 
 use crate::prime::read_code;
 use crate::refusal::FieldRefusal;
@@ -31,7 +31,7 @@ impl Lee {
 impl SymbolWeight for Lee {
     ghost meaning = { λ w. lee w.p };
 
-    ghost lawful = { first_of (Prim.search rules, Prim.grind (arith, Self.row.coded.inj)) };
+    ghost lawful = { λ w. lee_laws w.p w.six };
 
     fn order(&self) -> u8 {
         self.p

@@ -2,7 +2,7 @@
 ghost use Rattle.std.specs.Prelude.{◌≡◌, ℕ, ◌+◌, ◌<◌, ◌≤◌, ◌&&◌, [], ◌∷◌, length, Some, None, MatchResult, nat_le, slice_index};
 ghost use Rattle.fields.specs.Tables.{table_of, weight_fault, table_fault};
 ghost use Rattle.fields.specs.TableWeights.{told, SetTo};
-ghost use Rattle.std.proofs.Common.{rules, arith};
+ghost use Rattle.fields.specs.Weights.{table_laws};
 
 use super::TableWeight;
 use crate::refusal::FieldRefusal;
@@ -90,7 +90,7 @@ fn shifted(weights: &[u8]) -> [u8; 16]
 impl SymbolWeight for TableWeight {
     ghost meaning = { λ t. table_of t.q t.of };
 
-    ghost lawful = { first_of (Prim.search rules, Prim.grind (arith, Self.row.coded.inj)) };
+    ghost lawful = { λ t. table_laws t.q t.of t.low t.high t.zero t.positive t.bounded };
 
     fn order(&self) -> u8 {
         self.q

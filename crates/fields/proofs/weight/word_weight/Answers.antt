@@ -10,7 +10,7 @@ pub loop-a-preserved : goal.loop-a-preserved
 loop-a-preserved g c =
     let m = g.W.SymbolWeight.meaning c.args.weight.now in
     let more = sum_by_more m.of c.args.word.now c.loop-a.a-index 0 c.loop-a-test.true in
-    omega (arith, more, c.saturating-add-total.ensures, c.from.ensures, c.weight.ensures.value, c.loop-a.invariant)
+    omega (arith, more, c.saturating_add-total.ensures, c.from.ensures, c.weight.ensures.value, c.loop-a.invariant)
 
 pub returns : goal.returns
 returns g c =

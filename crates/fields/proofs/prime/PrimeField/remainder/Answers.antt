@@ -3,8 +3,8 @@ use Rattle.std.proofs.Common.{◌≡◌, ℕ, ◌*◌, ◌%◌, ◌<◌, sym, ap
 use Rattle.fields.specs.Modular.{prime_range, product_reduced}
 use Rattle.fields.proofs.prime.PrimeField.remainder.Goals as goal
 
-pub overflow-sub-result : goal.overflow-sub-result
-overflow-sub-result c =
+pub overflow_sub-result : goal.overflow_sub-result
+overflow_sub-result c =
     let f = c.args.self.now in
     let n : c.from.result * c.from-2.result ≡ c.args.x * c.args.y = ap (λ (x : ℕ). x * c.from-2.result) c.from.ensures ∙ ap (λ (y : ℕ). c.args.x * y) c.from-2.ensures in
     (product_reduced f.p f.reciprocal (c.from.result * c.from-2.result) c.from-3.result c.args.x c.args.y f.six c.requires.0 c.requires.1 f.near n c.from-3.ensures).0

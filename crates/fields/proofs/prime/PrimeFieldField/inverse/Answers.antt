@@ -11,4 +11,4 @@ loop-i-init c =
 
 pub loop-i-preserved : goal.loop-i-preserved
 loop-i-preserved c =
-    (rw (add-one, pow-suc) (c.remainder-power.ensures.value ∙ ap (λ (y : ℕ). (y * c.read-code-x.result) % c.args.self.now.p) c.loop-i.invariant.0 ∙ mod_product _ _ _), c.remainder-power.ensures.below)
+    (rw (add-one, pow-suc) (c.remainder-power.ensures.value ∙ ap (λ (y : ℕ). (y * c.read_code-x.result) % c.args.self.now.p) c.loop-i.invariant.0 ∙ mod_product _ _ _), c.remainder-power.ensures.below)

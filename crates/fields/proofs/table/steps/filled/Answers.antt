@@ -9,8 +9,8 @@ shifted-of-requires c =
     let good = no_table_fault c.args.q c.args.weights.now c.requires in
     omega (arith, good.high, good.long)
 
-pub invariant-of-result : goal.invariant-of-result
-invariant-of-result c =
+pub invariant_of-result : goal.invariant_of-result
+invariant_of-result c =
     let ws = c.args.weights.now in
     let of = c.shifted-of.result in
     let good = no_table_fault c.args.q ws c.requires in
@@ -18,19 +18,13 @@ invariant-of-result c =
     let inside : a - 1 < length ws = omega (arith, good.long) in
     let is : get_or of a 0 ≡ get_or ws (a - 1) 0 = ap (λ (k : ℕ). get_or of k 0) (omega arith) ∙ c.shifted-of.ensures.rest (a - 1) inside in
     let w = good.weights (a - 1) inside in
-    (omega arith, omega arith) in (
-      good.low,
-      (
-        good.high,
-        (
-          c.shifted-of.ensures.zero,
-          (
-            (λ a some below. (at a some below).0),
-            ((λ a below. ⊎_elim (λ none. omega (arith, ap (λ (k : ℕ). get_or of k 0) none, c.shifted-of.ensures.zero)) (λ some. (at a (omega arith) below).1) (cases_eq a 0)), tt),
-          ),
-        ),
-      ),
-    )
+    (omega arith, omega arith) in record {
+      low = good.low;
+      high = good.high;
+      zero = c.shifted-of.ensures.zero;
+      positive = λ a some below. (at a some below).0;
+      bounded = λ a below. ⊎_elim (λ none. omega (arith, ap (λ (k : ℕ). get_or of k 0) none, c.shifted-of.ensures.zero)) (λ some. (at a (omega arith) below).1) (cases_eq a 0);
+    }
 
 pub returns : goal.returns
 returns c =
