@@ -1,5 +1,7 @@
 // How long it takes to add a multiple of a row of 64 symbols to another and to weigh the sum, for some fields.
 // What is printed to standard output are the weights, so that the work is really done; the times go to standard error.
+#![tactic(auto)]
+
 use anyhow::anyhow;
 use fields::{Field, Gf4, Hamming, PrimeField, SymbolWeight, word_weight};
 use std::time::Instant;

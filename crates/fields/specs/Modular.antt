@@ -1,9 +1,9 @@
 -- The prime fields keep the laws, and their arithmetic fits bytes.
-use Rattle.std.specs.Prelude.{◌≡◌, ℕ, ◌+◌, ◌-◌, ◌*◌, ◌/◌, ◌%◌, ◌^◌, ◌<◌, ◌≤◌, Bool, true, false, cond, ◌&&◌, ◌||◌, ◌==◌, nat_le, nat_lt, refl}
+use Rattle.std.specs.Prelude.{◌≡◌, ℕ, ◌+◌, ◌-◌, ◌*◌, ◌/◌, ◌%◌, ◌^◌, ◌<◌, ◌≤◌, Bool, true, cond, ◌&&◌, ◌==◌, nat_le, nat_lt, refl}
 use Rattle.std.proofs.Common.{sym, ◌∙◌, ap, subst, ⊎_elim, add-mul, mul_assoc, mod-eq_of_lt, arith}
 use Rattle.std.proofs.Math.Nat.{mod-add-div, add-mul-mod_self_left, add-mod_right}
 use Rattle.std.proofs.lemmas.Bool.{and_parts, leb-true, or_cases, eqb-true, cases_lt, cond-true, cond-false, lt-ltb, le-ltb}
-use Rattle.theory.specs.Meanings.{FieldMeaning, FieldLaws, read_below}
+use Rattle.theory.specs.Meanings.{FieldLaws, read_below}
 use Rattle.theory.specs.Usual.{prime}
 use Rattle.fields.specs.Primes.{is_prime, negation_of, inversion_of}
 use Rattle.fields.specs.Finite.{Reads, read_twice, field_laws, pairs, pairs_at}

@@ -1,5 +1,6 @@
 // Fields and symbol weights: what the search asks of them, and the ones that are shipped.
 #![tactic(auto)]
+
 mod field;
 mod gf4;
 mod hamming;

@@ -1,6 +1,6 @@
 -- GF(5) with the codes 2 and 3 exchanged.
 use Rattle.std.specs.Prelude.{ℕ, ◌+◌, ◌-◌, ◌*◌, ◌%◌, [], ◌∷◌, slice_index}
-use Rattle.theory.specs.Meanings.{FieldMeaning, read_below}
+use Rattle.theory.specs.Meanings.{FieldMeaning}
 
 -- The number that a code stands for, 0 for a code of 5 or more.
 abbrev pub rename : ℕ → ℕ

@@ -1,3 +1,4 @@
+-- A code of the renamed field is read as the definitions read codes.
 use Rattle.std.specs.Prelude.{◌≡◌, ℕ, [], ◌∷◌, nat_lt}
 use Rattle.std.proofs.Common.{sym, ap, ◌∙◌, ⊎_elim}
 use Rattle.std.proofs.lemmas.List.{get_or_past}

@@ -1,5 +1,6 @@
 // What holds of every linear code and every search for its least distance: each function carries one theorem in its contract.
 #![tactic(auto)]
+
 ghost use Rattle.std.specs.Prelude.{ℕ, suc, List};
 ghost use Rattle.theory.specs.Meanings.{FieldMeaning, FieldLaws, read_below};
 ghost use Rattle.theory.specs.Codes.{Exactly};

@@ -4,7 +4,7 @@ use Rattle.std.proofs.lemmas.List.{get_or-set_same, get_or-set_other}
 use Rattle.std.proofs.lemmas.Bool.{cases_eq}
 use Rattle.theory.specs.Meanings.{FieldMeaning, FieldLaws}
 use Rattle.theory.specs.Codes.{plus, times}
-use Rattle.theory.proofs.Lists.Listed.{listed-from, listed-get_or, listed-set, more}
+use Rattle.theory.proofs.Lists.Listed.{listed-from, listed-get_or, listed-set}
 use Rattle.theory.proofs.Algebra.Scalars.{one_below}
 use Rattle.theory.proofs.Algebra.Multiples.{times-back}
 use Rattle.theory.proofs.Algebra.Words.{word-codes, Word, times-word, plus-word, plus_assoc, plus-zero, plus_negative}

@@ -1,5 +1,5 @@
 -- Lists in which nothing stands twice, and the pigeonhole.
-use Rattle.std.proofs.Common.{◌≡◌, ℕ, zero, suc, ◌+◌, ◌<◌, ◌≤◌, Bool, true, false, cond, ◌⊎◌, List, [], ◌∷◌, ◌++◌, map, reverse, length, get_or, filter, sym, refl, ap, subst, inl, inr, ⊎_elim, arith, length-append}
+use Rattle.std.proofs.Common.{◌≡◌, ℕ, zero, suc, ◌+◌, ◌<◌, ◌≤◌, Bool, true, false, cond, List, [], ◌∷◌, ◌++◌, map, reverse, length, get_or, filter, sym, refl, ap, subst, inl, inr, ⊎_elim, arith, length-append}
 use mathlib.Core.List.{reverse-cons}
 use Rattle.std.specs.List.{range_with_len, flat_map}
 use Rattle.theory.proofs.Lists.Members.{In, Within, in_cast, in-get_or, place_of, in_split, of-append, in_append_right, of-among, of_reverse, of_kept, in_map, of_map, of-joined, of_counting}

@@ -1,5 +1,5 @@
 -- The choices of t rows out of k: how many, which, each once.
-use Rattle.std.proofs.Common.{◌≡◌, ℕ, zero, suc, ◌+◌, ◌<◌, List, [], ◌∷◌, ◌++◌, map, reverse, length, get_or, sym, refl, ap, subst, inl, inr, ⊎_elim, arith, length-append}
+use Rattle.std.proofs.Common.{◌≡◌, ℕ, zero, suc, ◌<◌, List, [], ◌∷◌, ◌++◌, map, reverse, length, get_or, sym, refl, ap, subst, inl, inr, ⊎_elim, arith, length-append}
 use lib.ListN.{length-map, length-reverse}
 use Rattle.std.proofs.lemmas.List.{append_cancel_right, length_push, nil_from_length}
 use Rattle.theory.specs.Visits.{choices, Rising, binomial}

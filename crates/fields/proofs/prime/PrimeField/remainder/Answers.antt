@@ -1,5 +1,5 @@
 -- The remainder of a product, by the reciprocal.
-use Rattle.std.proofs.Common.{◌≡◌, ℕ, ◌*◌, ◌%◌, ◌<◌, sym, ap, ◌∙◌, subst, mod-lt, arith}
+use Rattle.std.proofs.Common.{◌≡◌, ℕ, ◌*◌, ◌<◌, sym, ap, ◌∙◌, subst, mod-lt, arith}
 use Rattle.fields.specs.Modular.{prime_range, product_reduced}
 use Rattle.fields.proofs.prime.PrimeField.remainder.Goals as goal
 
