@@ -1,6 +1,6 @@
 -- Marked columns, one more at a time: those put into an order, those counted, those marked, and whether one is open.
 use Rattle.std.proofs.Common.{◌≡◌, ℕ, zero, suc, ◌+◌, ◌<◌, ◌≤◌, Bool, true, false, cond, not, ◌&&◌, ◌||◌, eqb, List, [], ◌∷◌, ◌++◌, length, get_or, take, set, is_some, Some, None, filter, Option, sym, refl, ap, ◌∙◌, ⊎_elim, append_assoc, append-nil, add-one, arith, length-append, length-set, get_or-set_other, get_or-set_same, MatchOption}
-use mathlib.Core.Bool.{beq, or_false}
+use mathlib.Core.Bool.{or-false}
 use Rattle.std.specs.List.{range_with_len, AllByRecursion as All}
 use Rattle.std.proofs.lemmas.List.FromFn.{length-range_with_len, get_or-map-range_with_len, length-map-range_with_len}
 use Rattle.std.proofs.lemmas.List.Elements.{filter-append}
@@ -111,7 +111,7 @@ marked_more before ps i p after h long e below t c l =
     let found : among c (take (i + 1) ps) ≡ true = more ∙ or_right (among c (take i ps)) (cond (eqb p c) true false) (cond-true (eqb p c) true false (eq-eqb p c same)) in
     ap (marked (set after p true)) (sym same) ∙ get_or-set_same after p true false (omega arith) ∙ sym (cond-true (among c (take (i + 1) ps)) true (marked before c) found))
     (λ ne.
-    let as_before : among c (take (i + 1) ps) ≡ among c (take i ps) = more ∙ ap (λ b. among c (take i ps) || b) (cond-false (eqb p c) true false (ne_eqb p c ne)) ∙ or_false (among c (take i ps)) in
+    let as_before : among c (take (i + 1) ps) ≡ among c (take i ps) = more ∙ ap (λ b. among c (take i ps) || b) (cond-false (eqb p c) true false (ne_eqb p c ne)) ∙ or-false (among c (take i ps)) in
     get_or-set_other after p c true false (λ same. ne (sym same)) ∙ t c l ∙ ap (λ b. cond b true (marked before c)) (sym as_before))
     (cases_eq p c)
 

@@ -1,5 +1,5 @@
 -- The number and the place of each refusal of a matrix, and which comes first.
-use Rattle.std.specs.Prelude.{◌≡◌, ℕ, zero, suc, ◌*◌, Bool, true, false, cond, not, ◌&&◌, leb, List, length, drop, is_some, Some, None, Ok, Err, Option, Result, ◌==◌, nat_le, nat_lt, slice_index}
+use Rattle.std.specs.Prelude.{◌≡◌, ℕ, zero, suc, ◌*◌, Bool, true, cond, not, ◌&&◌, leb, List, length, drop, is_some, Some, None, Ok, Err, Option, Result, ◌==◌, nat_le, nat_lt, slice_index}
 use Rattle.theory.specs.Meanings.{FieldMeaning}
 use Rattle.theory.specs.Theorems.{dependent}
 use Rattle.forms.specs.Matrices.{rows_of}

@@ -1,4 +1,6 @@
 // The generator forms of a code, by elimination over any field.
+#![tactic(auto)]
+
 mod checks;
 mod columns;
 mod elimination;

@@ -1,4 +1,6 @@
 // The line of a word: the weights of its words, its leader; and the message weight of a word.
+#![tactic(auto)]
+
 mod leader;
 mod messages;
 mod weights;

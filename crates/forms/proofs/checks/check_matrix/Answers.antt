@@ -11,5 +11,5 @@ returns g c =
     record {
       value = search rules;
       shape = search rules;
-      matrix = matrix-from-codes f c.args.k c.args.n codes c.if-codes-k.false (sym (c.in-default.ensures.value ∙ ap (λ q. first_no_code q codes) c.order.ensures.value));
+      matrix = matrix-from-codes f c.args.k c.args.n codes c.if-codes-k.false (sym (c.in_default.ensures.value ∙ ap (λ q. first_no_code q codes) c.order.ensures.value));
     }

@@ -6,7 +6,7 @@ use Rattle.forms.proofs.checks.check_rows.Goals as goal
 pub returns-in-None : goal.returns-in-None
 returns-in-None g c =
     let field = c.args.field.now in
-    let passed = c.in-ok-check-matrix.ensures in
+    let passed = c.in_ok-check_matrix.ensures in
     record {
       value = search rules;
       scratch = search rules;

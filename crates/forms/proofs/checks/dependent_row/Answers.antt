@@ -12,12 +12,12 @@ returns g c =
     let f = g.F.Field.meaning c.args.field.now in
     let k = c.args.k in
     let n = c.args.n in
-    let r = c.first-dependent.result in
+    let r = c.first_dependent.result in
     let scratch = c.args.scratch.now in
-    let next = c.first-dependent.new.codes in
+    let next = c.first_dependent.new.codes in
     let long : length next ≡ k * n = omega (arith, length-take (k * n) scratch) in
     record {
-      value = first-dependent-is f k n c.args.codes.now r (subst (λ codes. FirstDependentOr f n (rows_of k n codes) r) c.copy-from-slice.ensures.after c.first-dependent.ensures.value);
+      value = first-dependent-is f k n c.args.codes.now r (subst (λ codes. FirstDependentOr f n (rows_of k n codes) r) c.copy_from_slice.ensures.after c.first_dependent.ensures.value);
       scratch = (
         omega (arith, length-append next (drop (k * n) scratch), length-drop (k * n) scratch),
         drop-append-drop (k * n) scratch next (2 * (k * n)) (omega arith) long,

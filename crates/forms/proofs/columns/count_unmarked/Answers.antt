@@ -5,10 +5,10 @@ use Rattle.std.proofs.lemmas.List.{take_all}
 use Rattle.forms.specs.ColumnMarks.{marked}
 use Rattle.forms.proofs.Marks.{Counted, counted-more}
 use Rattle.forms.proofs.columns.count_unmarked.Goals as goal
-use Rattle.forms.proofs.columns.count_unmarked.Goals.{then-is-new, else-is-new}
+use Rattle.forms.proofs.columns.count_unmarked.Goals.{then-is_new, else-is_new}
 
-pub is-new-requires : goal.is-new-requires
-is-new-requires c = omega (arith, All-get_or (λ p. p < 64) c.args.positions.now c.loop-p.p-index 0 c.loop-p-test.true c.requires)
+pub is_new-requires : goal.is_new-requires
+is_new-requires c = omega (arith, All-get_or (λ p. p < 64) c.args.positions.now c.loop-p.p-index 0 c.loop-p-test.true c.requires)
 
 pub loop-p-preserved : goal.loop-p-preserved
 loop-p-preserved c =
@@ -16,11 +16,11 @@ loop-p-preserved c =
     let positions = c.args.positions.now in
     let i = c.loop-p.p-index in
     let count = c.loop-p.count in
-    let test = sym c.is-new.ensures.value in
+    let test = sym c.is_new.ensures.value in
     let more = counted-more marks positions i (get_or positions i 0) count c.loop-p-test.true refl c.loop-p.invariant in
-    elim c.if-is-new.branch [
-      | then-is-new w ↦ subst (Counted marks positions (i + 1)) (ap (λ b. count + cond b 1 0) (test ∙ w.if-is-new.true) ∙ sym w.count-is) more
-      | else-is-new w ↦ subst (Counted marks positions (i + 1)) (ap (λ b. count + cond b 1 0) (test ∙ w.if-is-new.false) ∙ omega (arith, w.count-is)) more
+    elim c.if-is_new.branch [
+      | then-is_new w ↦ subst (Counted marks positions (i + 1)) (ap (λ b. count + cond b 1 0) (test ∙ w.if-is_new.true) ∙ sym w.count-is) more
+      | else-is_new w ↦ subst (Counted marks positions (i + 1)) (ap (λ b. count + cond b 1 0) (test ∙ w.if-is_new.false) ∙ omega (arith, w.count-is)) more
     ]
 
 pub returns : goal.returns

@@ -7,15 +7,15 @@ use Rattle.theory.specs.Codes.{is_zero}
 use Rattle.theory.specs.Forms.{column}
 use Rattle.forms.proofs.Marks.{column_tested, open_more, open_found}
 use Rattle.forms.proofs.columns.has_open_column.Goals as goal
-use Rattle.forms.proofs.columns.has_open_column.Goals.{else-not-marks-c-via-then-not-marks-c+else-is-some, else-not-marks-c-via-else-not-marks-c}
+use Rattle.forms.proofs.columns.has_open_column.Goals.{else-not-marks-c-via-then-not-marks-c+else-is_some, else-not-marks-c-via-else-not-marks-c}
 
-pub returns-then-is-some : goal.returns-then-is-some
-returns-then-is-some c =
+pub returns-then-is_some : goal.returns-then-is_some
+returns-then-is_some c =
     let rows = rows_of c.args.k c.args.n c.args.codes.now in
     let marks = c.args.marks.now in
     let i = c.loop-c.c in
-    let tested = column_tested c.args.k c.args.n c.args.codes.now i c.pivot-row.result c.pivot-row.ensures.value in
-    record { value = sym (open_found rows marks c.args.n i c.loop-c-test.true (and_from (not (marked marks i)) (not (is_zero (column rows i))) (not_from_false (marked marks i) c.if-not-marks-c.true) (tested ∙ sym c.if-is-some.ensures))) }
+    let tested = column_tested c.args.k c.args.n c.args.codes.now i c.pivot_row.result c.pivot_row.ensures.value in
+    record { value = sym (open_found rows marks c.args.n i c.loop-c-test.true (and_from (not (marked marks i)) (not (is_zero (column rows i))) (not_from_false (marked marks i) c.if-not-marks-c.true) (tested ∙ sym c.if-is_some.ensures))) }
 
 pub loop-c-preserved : goal.loop-c-preserved
 loop-c-preserved c =
@@ -24,7 +24,7 @@ loop-c-preserved c =
     let i = c.loop-c.c in
     let more = open_more rows marks i c.loop-c.invariant in
     elim c.else-not-marks-c.branch [
-      | else-not-marks-c-via-then-not-marks-c+else-is-some w ↦
-          more (and_right (not (marked marks i)) (not (is_zero (column rows i))) (column_tested c.args.k c.args.n c.args.codes.now i w.pivot-row.result w.pivot-row.ensures.value ∙ sym w.is-some.ensures ∙ w.if-is-some.false))
+      | else-not-marks-c-via-then-not-marks-c+else-is_some w ↦
+          more (and_right (not (marked marks i)) (not (is_zero (column rows i))) (column_tested c.args.k c.args.n c.args.codes.now i w.pivot_row.result w.pivot_row.ensures.value ∙ sym w.is_some.ensures ∙ w.if-is_some.false))
       | else-not-marks-c-via-else-not-marks-c w ↦ more (and_left (not (marked marks i)) (not (is_zero (column rows i))) (not_from_true (marked marks i) w.if-not-marks-c.false))
     ]

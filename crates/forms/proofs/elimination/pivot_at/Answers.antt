@@ -24,13 +24,13 @@ module _ (f : FieldMeaning) (negative inverse : ℕ → ℕ) (k n : ℕ) (before
             (cases_eq i p),
       )
 
-pub inverse-at-inverse-requires : goal.inverse-at-inverse-requires
-inverse-at-inverse-requires g c = (has_row c.args.n c.args.k c.args.codes.now c.args.pivot c.requires.3 c.requires.2, c.requires.1)
+pub inverse_at-inverse-requires : goal.inverse_at-inverse-requires
+inverse_at-inverse-requires g c = (has_row c.args.n c.args.k c.args.codes.now c.args.pivot c.requires.3 c.requires.2, c.requires.1)
 
-pub scale-row-requires : goal.scale-row-requires
-scale-row-requires g c = has_row c.args.n c.args.k c.args.codes.now c.args.pivot c.requires.3 c.requires.2
+pub scale_row-requires : goal.scale_row-requires
+scale_row-requires g c = has_row c.args.n c.args.k c.args.codes.now c.args.pivot c.requires.3 c.requires.2
 
 pub returns : goal.returns
 returns g c =
     let field = c.args.field.now in
-    record { after = pivoted (g.F.Field.meaning field) (g.F.Field.negation field) (g.F.Field.inversion field) c.args.k c.args.n c.args.codes.now c.args.pivot c.args.column c.inverse-at-inverse.result c.scale-row.new.codes c.clear-rows.new.codes c.requires.3 c.requires.2 c.inverse-at-inverse.ensures.value c.scale-row.ensures.after c.clear-rows.ensures.after }
+    record { after = pivoted (g.F.Field.meaning field) (g.F.Field.negation field) (g.F.Field.inversion field) c.args.k c.args.n c.args.codes.now c.args.pivot c.args.column c.inverse_at-inverse.result c.scale_row.new.codes c.clear_rows.new.codes c.requires.3 c.requires.2 c.inverse_at-inverse.ensures.value c.scale_row.ensures.after c.clear_rows.ensures.after }

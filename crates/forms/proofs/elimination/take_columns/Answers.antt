@@ -12,7 +12,7 @@ use Rattle.forms.proofs.Flat.{has_row}
 use Rattle.forms.proofs.Picking.{Picking, picking_start, picking_passes, picking_stops, picking_takes, picking_ends}
 use Rattle.forms.proofs.RowLists.{length-rows, symbol_rows, exchanged_rows, pivoted_gained, pivoted_clear, eliminated}
 use Rattle.forms.proofs.elimination.take_columns.Goals as goal
-use Rattle.forms.proofs.elimination.take_columns.Goals.{then-done-k+then-take-column, else-done-k, else-done-k-via-then-done-k+else-take-column, else-done-k-via-else-done-k}
+use Rattle.forms.proofs.elimination.take_columns.Goals.{then-done-k+then-take_column, else-done-k, else-done-k-via-then-done-k+else-take_column, else-done-k-via-else-done-k}
 
 -- A place is written, and those after it are as they were.
 written : (before after : List ℕ) (i x : ℕ) → drop i after ≡ drop i before → drop (i + 1) (set after i x) ≡ drop (i + 1) before
@@ -38,8 +38,8 @@ module _ {f : FieldMeaning} {negative inverse : ℕ → ℕ} (laws : FieldLaws f
       picking_takes laws R t p T.2.0 (omega (arith, length-rows k n codes, T.2.1)) (omega (arith, symbol_rows k n now p c T.2.1, T.2.2)) exchange refl (pivoted_gained laws k n middle r c after h T.4)
       (λ i l ne. pivoted_clear laws k n middle r c after h T.4 words (omega (arith, first, T.2.2)) i (omega (arith, length-rows k n codes)) ne)
 
-pub take-column-requires : goal.take-column-requires
-take-column-requires g c =
+pub take_column-requires : goal.take_column-requires
+take_column-requires g c =
     let low : get_or c.args.order.now c.loop-c.c-index 0 < c.args.n = All-get_or (λ x. x < c.args.n) c.args.order.now c.loop-c.c-index 0 c.loop-c-test.true c.requires.columns in
     (c.requires.shape.0, omega (arith, c.from.ensures), c.if-done-k.true, c.loop-c.auto.codes ∙ c.requires.shape.2)
 
@@ -76,9 +76,9 @@ loop-c-preserved g c =
     let turn : List ℕ → List ℕ → Type 0 = λ x qs. Picking f n rows order (rows_of k n x) qs rest in
     let asked : Bool → List ℕ → ℕ → ℕ → Type 0 = λ b after d x. Takes f negative inverse k n d x b now after in
     elim c.if-done-k.branch [
-      | then-done-k+then-take-column w ↦
-          let after = w.take-column.new.codes in
-          let T = subst₂ (asked true after) (sym count) w.from.ensures w.if-take-column.ensures.value in
+      | then-done-k+then-take_column w ↦
+          let after = w.take_column.new.codes in
+          let T = subst₂ (asked true after) (sym count) w.from.ensures w.if-take_column.ensures.value in
           let few : length ps < k = omega (arith, w.if-done-k.true) in
           let room : done < length positions = omega (arith, w.if-done-k.true, c.loop-c.invariant.1, c.requires.shape.1) in (
             omega (arith, w.done-is, w.if-done-k.true),
@@ -91,9 +91,9 @@ loop-c-preserved g c =
         c.if-done-k.array_long,
         ap₂ drop w.done-is w.positions-is ∙ c.loop-c.invariant.2 ∙ ap (λ d. drop d c.args.positions.now) (sym w.done-is),
         subst₂ turn (sym w.codes-is) (sym (ap₂ take w.done-is w.positions-is)) (elim w.else-done-k.branch [
-          | else-done-k-via-then-done-k+else-take-column v ↦
-              let after = v.take-column.new.codes in
-              subst (λ x. turn x ps) (sym v.codes-is) (passed laws k n codes R order now ps column rest after t (subst₂ (asked false after) (sym count) v.from.ensures v.if-take-column.ensures.value))
+          | else-done-k-via-then-done-k+else-take_column v ↦
+              let after = v.take_column.new.codes in
+              subst (λ x. turn x ps) (sym v.codes-is) (passed laws k n codes R order now ps column rest after t (subst₂ (asked false after) (sym count) v.from.ensures v.if-take_column.ensures.value))
           | else-done-k-via-else-done-k v ↦ subst (λ x. turn x ps) (sym v.codes-is) (picking_stops laws R t (omega (arith, length-rows k n codes, v.if-done-k.false)))
         ]),
       )

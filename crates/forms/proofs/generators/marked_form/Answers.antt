@@ -7,4 +7,4 @@ pub returns : goal.returns
 returns g c =
     let n = c.args.n in
     let marks = c.args.used.now in
-    record { value = c.form-with.ensures.value (marked_columns n marks) (marks_are_used n marks) }
+    record { value = c.form_with.ensures.value (marked_columns n marks) (marks_are_used n marks) }

@@ -9,9 +9,9 @@ use Rattle.forms.proofs.making.all_forms.Goals as goal
 pub loop-j-init : goal.loop-j-init
 loop-j-init g c = so_far_none (g.F.Field.meaning c.args.field.now) c.args.n (rows_of c.args.k c.args.n c.args.codes.now) c.args.forms.now c.requires.shape.0
 
-pub returns-then-not-has-open-column : goal.returns-then-not-has-open-column
-returns-then-not-has-open-column g c =
-    let end = so_far_ended c.loop-j.invariant c.loop-j-test.true c.if-not-has-open-column.ensures.value in
+pub returns-then-not-has_open_column : goal.returns-then-not-has_open_column
+returns-then-not-has_open_column g c =
+    let end = so_far_ended c.loop-j.invariant c.loop-j-test.true c.if-not-has_open_column.ensures.value in
     record { value = end.0; after = end.1; systematic = are_systematic (g.met.F.Field.lawful c.args.field.now) c.requires.matrix c.requires.independent }
 
 pub mark-requires : goal.mark-requires
@@ -20,7 +20,7 @@ mark-requires g c =
     let used = c.loop-j.invariant.used in
     let k = c.args.k in
     let n = c.args.n in
-    next_below (g.met.F.Field.lawful field) c.requires.matrix c.requires.independent used c.form-with-next.result (c.form-with-next.ensures.value used c.loop-j.invariant.agree) k (length-rows k n c.args.codes.now) c.requires.shape.0
+    next_below (g.met.F.Field.lawful field) c.requires.matrix c.requires.independent used c.form_with-next.result (c.form_with-next.ensures.value used c.loop-j.invariant.agree) k (length-rows k n c.args.codes.now) c.requires.shape.0
 
 pub loop-j-preserved : goal.loop-j-preserved
 loop-j-preserved g c =
@@ -28,11 +28,11 @@ loop-j-preserved g c =
     let used = c.loop-j.invariant.used in
     let k = c.args.k in
     let n = c.args.n in
-    let next = c.form-with-next.result in
-    let is = c.form-with-next.ensures.value used c.loop-j.invariant.agree in
+    let next = c.form_with-next.result in
+    let is = c.form_with-next.ensures.value used c.loop-j.invariant.agree in
     let places = next_positions (g.met.F.Field.lawful field) c.requires.matrix c.requires.independent used next is k (length-rows k n c.args.codes.now) in
     let room : c.loop-j.j < length c.args.forms.now = omega (arith, c.told-forms, c.loop-j-test.true) in
-    so_far_more c.loop-j.invariant c.requires.shape.0 c.loop-j-test.true room c.if-not-has-open-column.ensures.value next is (take k next.positions) places c.mark.new.marks c.mark.ensures.after
+    so_far_more c.loop-j.invariant c.requires.shape.0 c.loop-j-test.true room c.if-not-has_open_column.ensures.value next is (take k next.positions) places c.mark.new.marks c.mark.ensures.after
 
 pub returns : goal.returns
 returns g c =

@@ -6,4 +6,4 @@ use Rattle.forms.proofs.making.padded_rows.Goals as goal
 pub returns : goal.returns
 returns c =
     let codes = c.args.codes.now in
-    record { value = ap (λ l. l ++ drop (length codes) (replicate 2048 0)) c.copy-from-slice.ensures.after ∙ ap (λ l. codes ++ l) (drop-replicate (length codes) 2048 0) }
+    record { value = ap (λ l. l ++ drop (length codes) (replicate 2048 0)) c.copy_from_slice.ensures.after ∙ ap (λ l. codes ++ l) (drop-replicate (length codes) 2048 0) }

@@ -13,9 +13,9 @@ returns g c =
     let codes = c.args.codes.now in
     let pivot = c.args.pivot in
     let column = c.args.column in
-    let next = c.clear-rows.new.codes in
+    let next = c.clear_rows.new.codes in
     let told = pivot-told k n codes pivot column (and_parts (leb n 64) (has_pivot k n codes pivot column) c.requires).1 in
-    let after = c.clear-rows.ensures.after in
+    let after = c.clear_rows.ensures.after in
     record {
       after = after;
       zeros = clear_zeros laws k n codes pivot column told.0 told.1 told.3 next after;

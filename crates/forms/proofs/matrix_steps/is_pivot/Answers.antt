@@ -13,7 +13,7 @@ positive_test x = grind (arith, nat_tests)
 
 pub symbol-requires : goal.symbol-requires
 symbol-requires c =
-    let told = row_told c.args.k c.args.n c.args.codes.now c.args.i (sym c.is-row.ensures.value ∙ c.if-column-n.true.0) in
+    let told = row_told c.args.k c.args.n c.args.codes.now c.args.i (sym c.is_row.ensures.value ∙ c.if-column-n.true.0) in
     (has_row c.args.n c.args.k c.args.codes.now c.args.i told.0 told.1, c.if-column-n.true.1)
 
 pub returns-then-column-n : goal.returns-then-column-n
@@ -24,5 +24,5 @@ returns-then-column-n c =
     let i = c.args.i in
     let column = c.args.column in
     let inside = c.if-column-n.true.1 in
-    let before = and_from (tests.has_row k n codes i) (ltb column n) (sym c.is-row.ensures.value ∙ c.if-column-n.true.0) (lt-ltb column n inside) in
+    let before = and_from (tests.has_row k n codes i) (ltb column n) (sym c.is_row.ensures.value ∙ c.if-column-n.true.0) (lt-ltb column n inside) in
     record { value = ap (λ x. not (eqb x 0)) c.symbol.ensures.value ∙ positive_test (symbol_at n codes i column) ∙ ap (λ b. b && ltb 0 (symbol_at n codes i column)) (sym before) }

@@ -31,11 +31,11 @@ module _ {f : FieldMeaning} {negative inverse : ℕ → ℕ} (laws : FieldLaws f
       rw add-one (tested_step laws R t c (omega (arith, symbol_rows k n now i c h)) refl (pivoted_gained laws k n now i c after h P)
       (λ m l ne. pivoted_clear laws k n now i c after h P t.words some m (omega (arith, length-rows k n codes)) ne))
 
-pub leading-column-requires : goal.leading-column-requires
-leading-column-requires g c = has_row c.args.n c.args.k c.loop-i.codes c.loop-i.i (c.loop-i.auto.codes ∙ c.requires.shape.1) c.loop-i-test.true
+pub leading_column-requires : goal.leading_column-requires
+leading_column-requires g c = has_row c.args.n c.args.k c.loop-i.codes c.loop-i.i (c.loop-i.auto.codes ∙ c.requires.shape.1) c.loop-i-test.true
 
-pub pivot-at-requires : goal.pivot-at-requires
-pivot-at-requires g c = (c.requires.shape.0, c.in-Some.ensures.value.0, c.loop-i-test.true, c.loop-i.auto.codes ∙ c.requires.shape.1)
+pub pivot_at-requires : goal.pivot_at-requires
+pivot_at-requires g c = (c.requires.shape.0, c.in-Some.ensures.value.0, c.loop-i-test.true, c.loop-i.auto.codes ∙ c.requires.shape.1)
 
 pub loop-i-init : goal.loop-i-init
 loop-i-init g c =
@@ -58,12 +58,12 @@ loop-i-preserved g c =
     let ps = c.loop-i.invariant.0 in
     let t = c.loop-i.invariant.1 in (
       ps ++ column ∷ [],
-      tested_more laws k n codes R now i c.loop-i-test.true ps t column some c.pivot-at.new.codes c.pivot-at.ensures.after,
+      tested_more laws k n codes R now i c.loop-i-test.true ps t column some c.pivot_at.new.codes c.pivot_at.ensures.after,
       below_more _ _ c.loop-i.invariant.2 (not-dependent laws k n codes R now i c.loop-i-test.true ps t column some),
     )
 
-pub returns-in-default : goal.returns-in-default
-returns-in-default g c =
+pub returns-in_default : goal.returns-in_default
+returns-in_default g c =
     let field = c.args.field.now in
     let laws = g.met.F.Field.lawful field in
     let k = c.args.k in
@@ -73,7 +73,7 @@ returns-in-default g c =
     record {
       value = (
         omega (arith, length-rows k n codes),
-        sym (tells laws k n codes R c.loop-i.codes c.loop-i.i c.loop-i-test.true c.loop-i.invariant.0 c.loop-i.invariant.1) ∙ c.in-default.ensures.value,
+        sym (tells laws k n codes R c.loop-i.codes c.loop-i.i c.loop-i-test.true c.loop-i.invariant.0 c.loop-i.invariant.1) ∙ c.in_default.ensures.value,
         c.loop-i.invariant.2,
       );
     }

@@ -4,14 +4,14 @@ use Rattle.lines.proofs.Multiples.{weighed-none, weighed-more, weighed_all, weig
 use Rattle.lines.proofs.weights.weigh_multiples.Goals as goal
 
 pub loop-i-init : goal.loop-i-init
-loop-i-init g c = weighed-none _ _ c.args.word.now _ c.word-weight-least.result refl c.word-weight-least.ensures.value
+loop-i-init g c = weighed-none _ _ c.args.word.now _ c.word_weight-least.result refl c.word_weight-least.ensures.value
 
 pub loop-i-preserved : goal.loop-i-preserved
 loop-i-preserved g c =
     let f = g.F.Field.meaning c.args.field.now in
     let w = g.W.SymbolWeight.meaning c.args.weight.now in
     let within : c.loop-i.i < 15 = omega (arith, c.loop-i-test.true, c.from-count.ensures, c.order.ensures.value, (g.met.F.Field.lawful c.args.field.now).high) in
-    weighed-more f w c.args.word.now c.loop-i.i c.loop-i.weights c.loop-i.least c.multiple-weight-next.result c.min-least.result c.loop-i.invariant within c.multiple-weight-next.ensures.value c.min-least.ensures
+    weighed-more f w c.args.word.now c.loop-i.i c.loop-i.weights c.loop-i.least c.multiple_weight-next.result c.min-least.result c.loop-i.invariant within c.multiple_weight-next.ensures.value c.min-least.ensures
 
 pub returns : goal.returns
 returns g c =
