@@ -1,6 +1,6 @@
 -- That what an elimination leaves of the codes and the positions is the record of a form.
 use Rattle.std.proofs.Common.{◌≡◌, ℕ, zero, suc, ◌+◌, ◌-◌, ◌*◌, ◌<◌, ◌≤◌, Bool, not, List, [], ◌++◌, length, take, drop, replicate, filter, sym, ap, ◌∙◌, subst, ap₂, inl, inr, suc-mul, zero-mul, add-one, arith}
-use Rattle.std.specs.List.{flat_map, AllByRecursion as All}
+use Rattle.std.specs.List.{flat_map, AllByRecursion}
 use Rattle.std.proofs.lemmas.List.FromFn.{map-range_with_len_more}
 use Rattle.std.proofs.ByRecursion.{All-append, All-drop, All-from_get_or, All-weaker}
 use Rattle.std.proofs.lemmas.List.{flat_map_more, take-take, drop-take, take-append-drop, take_all, take_at, drop_at, drop-replicate, get_or-replicate, length-replicate, length-take}
@@ -64,18 +64,18 @@ module _ {f : FieldMeaning} {negative inverse : ℕ → ℕ} (laws : FieldLaws f
   R : Rows f.order n (length rows) rows
   R = rows_from f n rows M
 
-  picked-below : (columns : List ℕ) → All (λ c. c < n) columns → All (λ c. c < n) (pick f rows [] columns)
+  picked-below : (columns : List ℕ) → AllByRecursion (λ c. c < n) columns → AllByRecursion (λ c. c < n) (pick f rows [] columns)
   picked-below columns below = all_from-in (λ c. c < n) (pick f rows [] columns) (λ p m. elim ((pick-picked laws R columns).from p m) [ inl z ↦ absurd z | inr z ↦ all_in (λ c. c < n) columns below p z ])
 
   -- Positions that were taken in an array of zeros are below 64.
-  pub positions-below : (columns positions : List ℕ) (m r : ℕ) → n ≤ 64 → All (λ c. c < n) columns → take r positions ≡ pick f rows [] columns → drop r positions ≡ drop r (replicate m 0) → All (λ c. c < 64) positions
+  pub positions-below : (columns positions : List ℕ) (m r : ℕ) → n ≤ 64 → AllByRecursion (λ c. c < n) columns → take r positions ≡ pick f rows [] columns → drop r positions ≡ drop r (replicate m 0) → AllByRecursion (λ c. c < 64) positions
   positions-below columns positions m r few below taken rest =
       let low : ℕ → Type 0 = λ c. c < 64 in
-      let zeros : All low (replicate m 0) = All-from_get_or low (replicate m 0) 0 (λ i h. subst low (sym (get_or-replicate m i 0 0 (omega (arith, length-replicate {A = ℕ} m 0)))) (omega arith)) in
-      subst (All low) (take-append-drop r positions)
+      let zeros : AllByRecursion low (replicate m 0) = All-from_get_or low (replicate m 0) 0 (λ i h. subst low (sym (get_or-replicate m i 0 0 (omega (arith, length-replicate {A = ℕ} m 0)))) (omega arith)) in
+      subst (AllByRecursion low) (take-append-drop r positions)
       (All-append low (take r positions) (drop r positions)
-      (subst (All low) (sym taken) (All-weaker (λ c. c < n) low (λ c h. omega arith) (pick f rows [] columns) (picked-below columns below)))
-      (subst (All low) (sym rest) (All-drop low r (replicate m 0) zeros)))
+      (subst (AllByRecursion low) (sym taken) (All-weaker (λ c. c < n) low (λ c h. omega arith) (pick f rows [] columns) (picked-below columns below)))
+      (subst (AllByRecursion low) (sym rest) (All-drop low r (replicate m 0) zeros)))
 
   module _ (I : Independent f n rows) (marks : List Bool) (used : List ℕ) (agree : MarksUsed n marks used) where
     -- Rows from which the columns of that order were taken are those of the form, and so are the positions.
@@ -88,7 +88,7 @@ module _ {f : FieldMeaning} {negative inverse : ℕ → ℕ} (laws : FieldLaws f
     -- The rank counts the positions that are not marked.
     left-rank : (form f n rows used).rank ≡ length (filter (λ p. not (marked marks p)) (form f n rows used).positions)
     left-rank =
-        let below : All (λ c. c < n) (order n used) = subst (All (λ c. c < n)) (order-used n marks used agree) (order_below n marks) in
+        let below : AllByRecursion (λ c. c < n) (order n used) = subst (AllByRecursion (λ c. c < n)) (order-used n marks used agree) (order_below n marks) in
         sym (rank-used n marks used agree (form f n rows used).positions (picked-below (order n used) below))
 
 -- The record of the form.

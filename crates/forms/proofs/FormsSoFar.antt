@@ -1,7 +1,7 @@
 -- The forms that are written when the forms of a code are made one after the other.
 use Rattle.std.proofs.Common.{◌≡◌, ℕ, suc, ◌+◌, ◌-◌, ◌<◌, ◌≤◌, Bool, true, false, List, [], ◌∷◌, ◌++◌, map, length, get_or, take, drop, set, replicate, sym, refl, ap, ◌∙◌, subst, append_assoc, arith}
 use lib.ListN.{length-map}
-use Rattle.std.specs.List.{AllByRecursion as All}
+use Rattle.std.specs.List.{AllByRecursion}
 use Rattle.std.proofs.lemmas.List.{take_at, set_at, drop_more, map_push, length_push}
 use Rattle.theory.specs.Meanings.{FieldMeaning, FieldLaws}
 use Rattle.theory.specs.Forms.{GeneratorForm, form, forms_from, forms}
@@ -37,8 +37,8 @@ module _ {f : FieldMeaning} {negative inverse : ℕ → ℕ} (laws : FieldLaws f
       let ps : List ℕ = (form f n rows used).positions in
       ap (λ (x : Form). take k x.positions) is ∙ take_at ps (replicate (32 - length ps) 0) k ((form_basis laws (rows_from f n rows M) I used).count ∙ e)
 
-  pub next_below : (k : ℕ) → length rows ≡ k → n ≤ 64 → All (λ c. c < 64) (take k next.positions)
-  next_below k e few = subst (All (λ c. c < 64)) (sym (next_positions k e)) (all_from-in (λ c. c < 64) (form f n rows used).positions (λ p m. omega (arith, form-within laws (rows_from f n rows M) I used p m)))
+  pub next_below : (k : ℕ) → length rows ≡ k → n ≤ 64 → AllByRecursion (λ c. c < 64) (take k next.positions)
+  next_below k e few = subst (AllByRecursion (λ c. c < 64)) (sym (next_positions k e)) (all_from-in (λ c. c < 64) (form f n rows used).positions (λ p m. omega (arith, form-within laws (rows_from f n rows M) I used p m)))
 
 pub so_far_none : (f : FieldMeaning) (n : ℕ) (rows : List (List ℕ)) (before : List Form) → n ≤ 64 → SoFar f n rows before 0 (replicate 64 false) before
 so_far_none f n rows before few = record { used = []; made = []; agree = marks_none n few; count = refl; series = forms-none f n rows; written = refl }

@@ -1,7 +1,7 @@
 -- Marked columns, one more at a time: those put into an order, those counted, those marked, and whether one is open.
 use Rattle.std.proofs.Common.{◌≡◌, ℕ, zero, suc, ◌+◌, ◌<◌, ◌≤◌, Bool, true, false, cond, not, ◌&&◌, ◌||◌, eqb, List, [], ◌∷◌, ◌++◌, length, get_or, take, set, is_some, Some, None, filter, Option, sym, refl, ap, ◌∙◌, ⊎_elim, append_assoc, append-nil, add-one, arith, length-append, length-set, get_or-set_other, get_or-set_same, MatchOption}
 use mathlib.Core.Bool.{or-false}
-use Rattle.std.specs.List.{range_with_len, AllByRecursion as All}
+use Rattle.std.specs.List.{range_with_len, AllByRecursion}
 use Rattle.std.proofs.lemmas.List.FromFn.{length-range_with_len, get_or-map-range_with_len, length-map-range_with_len}
 use Rattle.std.proofs.lemmas.List.Elements.{filter-append}
 use Rattle.std.proofs.ByRecursion.{All-append, all_kept_by, All-map}
@@ -85,9 +85,9 @@ module _ (n : ℕ) (marks : List Bool) where
       let e : n ≡ end = omega (arith, as_many-columns) in
       ap (λ m. take m whole) e ∙ whole_is ∙ ap (λ l. l ++ marked-below) others-are
 
-  pub order_below : All (λ c. c < n) (column_order n marks)
+  pub order_below : AllByRecursion (λ c. c < n) (column_order n marks)
   order_below =
-      let below : All (λ c. c < n) (range_with_len 0 n) = all_counting (λ c. c < n) 0 n (λ c _ h. omega arith) in
+      let below : AllByRecursion (λ c. c < n) (range_with_len 0 n) = all_counting (λ c. c < n) 0 n (λ c _ h. omega arith) in
       All-append (λ c. c < n) unmarked_below marked-below (all_kept_by (λ c. not (marked marks c)) (λ c. c < n) (range_with_len 0 n) below) (all_kept_by (marked marks) (λ c. c < n) (range_with_len 0 n) below)
 
 -- The count of those of the first i positions that are not marked.
@@ -119,7 +119,7 @@ module _ (k n : ℕ) (codes : List ℕ) (c : ℕ) where
   zero-column : ZeroIn n codes c 0 k → is_zero (column (rows_of k n codes) c) ≡ true
   zero-column zeros =
       let u : List ℕ = column (rows_of k n codes) c in
-      let each : All (λ a. a ≡ 0) u = All-map (λ a. a ≡ 0) (λ row. get_or row c 0) (rows_of k n codes) (All-map (λ row. get_or row c 0 ≡ 0) (row_at n codes) (range_with_len 0 k) (all_counting (λ i. symbol_at n codes i c ≡ 0) 0 k (λ i a b. zeros i a (omega arith)))) in
+      let each : AllByRecursion (λ a. a ≡ 0) u = All-map (λ a. a ≡ 0) (λ row. get_or row c 0) (rows_of k n codes) (All-map (λ row. get_or row c 0 ≡ 0) (row_at n codes) (range_with_len 0 k) (all_counting (λ i. symbol_at n codes i c ≡ 0) 0 k (λ i a b. zeros i a (omega arith)))) in
       (is_zero_decides u).1 (zeros_from u each)
 
   nonzero_column : (p : ℕ) → FirstPivot n codes c 0 k p → is_zero (column (rows_of k n codes) c) ≡ false

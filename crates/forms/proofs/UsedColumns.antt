@@ -1,6 +1,6 @@
 -- Marks that agree with a list of used columns: the same order, rank and open columns, and more columns used.
 use Rattle.std.proofs.Common.{◌≡◌, ℕ, ◌<◌, ◌≤◌, Bool, true, false, cond, not, ◌&&◌, ◌||◌, eqb, List, [], ◌∷◌, ◌++◌, length, replicate, filter, sym, refl, ap, ◌∙◌, ap₂, inl, inr, arith}
-use Rattle.std.specs.List.{range_with_len, AllByRecursion as All}
+use Rattle.std.specs.List.{range_with_len, AllByRecursion}
 use Rattle.std.proofs.ByRecursion.{All-weaker}
 use Rattle.std.proofs.lemmas.List.{get_or-replicate}
 use Rattle.theory.specs.Codes.{any, is_zero}
@@ -27,7 +27,7 @@ module _ (n : ℕ) (marks : List Bool) (used : List ℕ) (agree : MarksUsed n ma
       (kept_by_same (λ c. not (marked marks c)) (λ c. not (among c used)) (range_with_len 0 n) (λ c m. ap not (at-column c m)))
       (kept_by_same (marked marks) (λ c. among c used) (range_with_len 0 n) at-column)
 
-  pub rank-used : (ps : List ℕ) → All (λ c. c < n) ps → length (filter (λ p. not (marked marks p)) ps) ≡ length (filter (λ p. not (among p used)) ps)
+  pub rank-used : (ps : List ℕ) → AllByRecursion (λ c. c < n) ps → length (filter (λ p. not (marked marks p)) ps) ≡ length (filter (λ p. not (among p used)) ps)
   rank-used ps below = ap length (kept_by_all (λ p. not (marked marks p)) (λ p. not (among p used)) ps (All-weaker (λ c. c < n) (λ p. not (marked marks p) ≡ not (among p used)) (λ p h. ap not (agree p h)) ps below))
 
   pub open_used : (rows : List (List ℕ)) → has_open n rows marks ≡ goes_on n rows used

@@ -1,6 +1,6 @@
 // The order in which a form goes through the columns, and the marks of those that are used.
 ghost use Rattle.std.specs.Prelude.{◌≡◌, ℕ, ◌+◌, ◌*◌, ◌<◌, ◌≤◌, Bool, not, ◌++◌, length, take, if◌then◌else◌, filter};
-ghost use Rattle.std.specs.List.{range_with_len, AllByRecursion as All};
+ghost use Rattle.std.specs.List.{range_with_len, AllByRecursion};
 ghost use Rattle.theory.specs.Forms.{among};
 ghost use Rattle.forms.specs.Matrices.{rows_of};
 ghost use Rattle.forms.specs.ColumnMarks.{marked, column_order, has_open};
@@ -41,7 +41,7 @@ fn put_columns(
 pub(crate) fn order_columns(marks: &[bool; 64], n: usize) -> [u8; 64]
     requires { n ≤ 64 }
     ensures value { take n result ≡ column_order n marks.now }
-    ensures columns { All (λ c. c < n) (take n result) }
+    ensures columns { AllByRecursion (λ c. c < n) (take n result) }
 {
     let mut order = [0u8; 64];
     let middle = put_columns(marks, n, false, &mut order, 0);
@@ -59,7 +59,7 @@ fn is_new(marks: &[bool; 64], p: u8) -> bool
 
 // How many of the positions are not marked.
 pub(crate) fn count_unmarked(marks: &[bool; 64], positions: &[u8]) -> usize
-    requires { All (λ c. c < 64) positions.now }
+    requires { AllByRecursion (λ c. c < 64) positions.now }
     ensures value { result ≡ length (filter (λ p. not (marked marks.now p)) positions.now) }
 {
     let mut count = 0;
@@ -73,7 +73,7 @@ pub(crate) fn count_unmarked(marks: &[bool; 64], positions: &[u8]) -> usize
 
 // Marks the positions.
 pub(crate) fn mark(marks: &mut [bool; 64], positions: &[u8])
-    requires { All (λ c. c < 64) positions.now }
+    requires { AllByRecursion (λ c. c < 64) positions.now }
     ensures after { (c : ℕ) → c < 64 → marked marks.new c ≡ (if among c positions.now then Bool.true else marked marks.old c) }
 {
     for p in positions {

@@ -1,6 +1,6 @@
 // Columns turned into unit columns, one after the other.
 ghost use Rattle.std.specs.Prelude.{◌≡◌, ◌*◌, ◌<◌, ◌≤◌, [], length, take, drop};
-ghost use Rattle.std.specs.List.{AllByRecursion as All};
+ghost use Rattle.std.specs.List.{AllByRecursion};
 ghost use Rattle.theory.specs.Forms.{pick};
 ghost use Rattle.theory.specs.Facts.{Matrix};
 ghost use Rattle.forms.specs.Matrices.{rows_of};
@@ -57,7 +57,7 @@ pub(crate) fn take_columns<F: Field>(
     positions: &mut [u8; 32],
 ) -> usize
     requires shape { (n ≤ 64) × (k ≤ 32) × (length codes.old ≡ k * n) }
-    requires columns { All (λ c. c < n) order.now }
+    requires columns { AllByRecursion (λ c. c < n) order.now }
     requires matrix { Matrix (F.Field.meaning field.now) n (rows_of k n codes.old) }
     ensures taken { (result ≤ k) × (take result positions.new ≡ pick (F.Field.meaning field.now) (rows_of k n codes.old) [] order.now) }
     ensures rest { drop result positions.new ≡ drop result positions.old }

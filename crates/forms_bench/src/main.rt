@@ -1,5 +1,7 @@
 // How long it takes to make all forms of matrices of 32 rows of 64 codes.
 // What is printed to standard output are the ranks; the times go to standard error.
+#![tactic(auto)]
+
 use anyhow::anyhow;
 use fields::{Field, Gf4, PrimeField};
 use forms::{Form, make_forms};

@@ -1,6 +1,6 @@
 -- Words, codewords, lines and weights of a linear code.
 use Rattle.std.specs.Prelude.{◌≡◌, ℕ, zero, suc, ◌-◌, min, Bool, true, false, cond, ◌&&◌, List, [], ◌∷◌, map, length, replicate, sum_by, count_by, ◌==◌}
-use Rattle.std.specs.List.{range_with_len, flat_map, AllByRecursion as All}
+use Rattle.std.specs.List.{range_with_len, flat_map, AllByRecursion}
 use Rattle.theory.specs.Meanings.{FieldMeaning, WeightMeaning}
 
 -- All lists of k codes below q, the last code changing fastest.
@@ -17,7 +17,7 @@ same (a ∷ u) (b ∷ v) = a == b && same u v
 
 -- The list holds the words with P and no others, each exactly once.
 pub record Exactly (P : List ℕ → Type 0) (us : List (List ℕ)) : Type 0 where
-  pub only : All P us
+  pub only : AllByRecursion P us
   pub once : (u : List ℕ) → P u → count_by (same u) us ≡ 1
 
 -- Some element of a list passes a test.

@@ -1,6 +1,6 @@
 -- What else holds of fields, codes and forms, as the functions of `src/lib.rt` carry it.
 use Rattle.std.specs.Prelude.{◌≡◌, ℕ, ◌-◌, ◌*◌, ◌^◌, ◌<◌, ◌≤◌, Bool, false, cond, not, T, ◌↔◌, List, [], length, take, None, count_by, ◌==◌, slice_index_or}
-use Rattle.std.specs.List.{AllByRecursion as All}
+use Rattle.std.specs.List.{AllByRecursion}
 use Rattle.theory.specs.Meanings.{FieldMeaning, FieldLaws, WeightMeaning, WeightLaws}
 use Rattle.theory.specs.Codes.{same, Exactly, any, codewords, multiples, on_line, is_zero, leads}
 use Rattle.theory.specs.Forms.{GeneratorForm}
@@ -16,7 +16,7 @@ CodewordsOnce c = Exactly (Codeword c) (codewords c.field c.n c.rows)
 
 -- Each form is a generator of the code in systematic form, and its rank counts its new positions.
 abbrev pub SystematicForms : LinearCode → Type 0
-SystematicForms c = All (Systematic c) (all_forms c) × Ranked [] (all_forms c)
+SystematicForms c = AllByRecursion (Systematic c) (all_forms c) × Ranked [] (all_forms c)
 
 -- The new positions of a code's forms: what each rank counts, and no position is new in two forms.
 abbrev pub NewPositionsDisjoint : LinearCode → Type 0
@@ -29,12 +29,12 @@ ChoicesOnce = (k t : ℕ) → Exactly (Choice k t) (choices k t)
 -- Level t of a form: how many visits it has; that each visits a codeword of message weight t; and that it meets the line of a codeword exactly once if the message weight is t, and else never.
 pub record LevelMeets (c : LinearCode) (j : GeneratorForm) (t : ℕ) : Type 0 where
   pub size : length (visits c.field c.n j.rows t) ≡ binomial (length c.rows) t * (c.field.order - 1) ^ (t - 1)
-  pub words : All (λ v. Codeword c v × (message_weight j v ≡ t)) (visits c.field c.n j.rows t)
+  pub words : AllByRecursion (λ v. Codeword c v × (message_weight j v ≡ t)) (visits c.field c.n j.rows t)
   pub once : (u : List ℕ) → Codeword c u → count_by (on_line c.field u) (visits c.field c.n j.rows t) ≡ cond (message_weight j u == t) 1 0
 
 -- Every level of every form meets each line of its message weight exactly once.
 abbrev pub LevelsMeetOnce : LinearCode → Type 0
-LevelsMeetOnce c = (t : ℕ) → 1 ≤ t → All (λ j. LevelMeets c j t) (all_forms c)
+LevelsMeetOnce c = (t : ℕ) → 1 ≤ t → AllByRecursion (λ j. LevelMeets c j t) (all_forms c)
 
 -- Row i is a sum of multiples of the rows before it: the first row if it is 0.
 abbrev pub dependent : FieldMeaning → ℕ → List (List ℕ) → ℕ → Bool

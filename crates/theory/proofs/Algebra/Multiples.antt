@@ -1,13 +1,13 @@
 -- Words of codes, whatever the coefficients: what sums and multiples hold are codes, and multiples keep their laws.
 use Rattle.std.proofs.Common.{◌≡◌, ℕ, zero, suc, ◌<◌, List, [], ◌∷◌, get_or, replicate, sym, refl, ap, ◌∙◌, ap₂}
-use Rattle.std.specs.List.{AllByRecursion as All}
+use Rattle.std.specs.List.{AllByRecursion}
 use Rattle.theory.specs.Meanings.{FieldMeaning, FieldLaws}
 use Rattle.theory.specs.Codes.{plus, times, combination}
 use Rattle.theory.proofs.Algebra.Scalars.{sum_low, product-low, product_assoc_all, distributes_all, distributes_right, zero-below, product-zero, inverse_left}
 
 -- The symbols of the word are codes.
 abbrev pub CodesOf : FieldMeaning → List ℕ → Type 0
-CodesOf f u = All (λ x. x < f.order) u
+CodesOf f u = AllByRecursion (λ x. x < f.order) u
 
 module _ {f : FieldMeaning} {negative inverse : ℕ → ℕ} (laws : FieldLaws f negative inverse) where
   pub times-times : (a b : ℕ) (u : List ℕ) → times f a (times f b u) ≡ times f (f.product a b) u

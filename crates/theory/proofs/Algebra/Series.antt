@@ -1,7 +1,7 @@
 -- The list of the forms of a code: how many there are, and what each is.
 use Rattle.std.proofs.Common.{◌≡◌, ℕ, zero, suc, ◌<◌, ◌≤◌, Bool, true, false, not, ◌&&◌, List, [], ◌∷◌, ◌++◌, length, get_or, replicate, sym, refl, ap, ◌∙◌, inl, inr, arith}
 use lib.ListN.{length-replicate}
-use Rattle.std.specs.List.{range_with_len, AllByRecursion as All}
+use Rattle.std.specs.List.{range_with_len, AllByRecursion}
 use Rattle.std.proofs.lemmas.List.{ext_get_or}
 use Rattle.std.proofs.ByRecursion.{All-get_or}
 use Rattle.std.proofs.lemmas.Bool.{cases_Bool, not-false}
@@ -54,11 +54,11 @@ module _ (f : FieldMeaning) (n : ℕ) (rows : List (List ℕ)) where
   forms-few = forms-at_most 8 []
 
 -- The forms of a matrix with independent rows, whatever the weight and the size of the code.
-pub made_systematic : (c : LinearCode) {negative inverse : ℕ → ℕ} → FieldLaws c.field negative inverse → Matrix c.field c.n c.rows → Independent c.field c.n c.rows → All (Systematic c) (all_forms c)
+pub made_systematic : (c : LinearCode) {negative inverse : ℕ → ℕ} → FieldLaws c.field negative inverse → Matrix c.field c.n c.rows → Independent c.field c.n c.rows → AllByRecursion (Systematic c) (all_forms c)
 unfolding forms
-made_systematic c laws matrix independent = forms_by c.field c.n c.rows (λ used js. All (Systematic c) js) (λ used. tt) (λ used js r. (form_systematic c laws matrix independent used, r)) 8 []
+made_systematic c laws matrix independent = forms_by c.field c.n c.rows (λ used js. AllByRecursion (Systematic c) js) (λ used. tt) (λ used js r. (form_systematic c laws matrix independent used, r)) 8 []
 
-pub forms_systematic : (c : LinearCode) {negative inverse : ℕ → ℕ} → Accepted c negative inverse → All (Systematic c) (all_forms c)
+pub forms_systematic : (c : LinearCode) {negative inverse : ℕ → ℕ} → Accepted c negative inverse → AllByRecursion (Systematic c) (all_forms c)
 forms_systematic c accepted = made_systematic c accepted.field_laws accepted.matrix accepted.independent
 
 pub form-is_systematic : (c : LinearCode) {negative inverse : ℕ → ℕ} → Accepted c negative inverse → (j : ℕ) → j < length (all_forms c) → Systematic c (get_or (all_forms c) j no_form)

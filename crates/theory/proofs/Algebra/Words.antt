@@ -1,6 +1,6 @@
 -- Words of n codes below the order are a vector space over the field.
 use Rattle.std.proofs.Common.{◌≡◌, ℕ, zero, suc, ◌<◌, List, ◌∷◌, length, get_or, replicate, sym, refl, ap, ◌∙◌, ap₂, arith}
-use Rattle.std.specs.List.{AllByRecursion as All}
+use Rattle.std.specs.List.{AllByRecursion}
 use Rattle.std.proofs.ByRecursion.{All-get_or}
 use Rattle.theory.specs.Meanings.{FieldMeaning, FieldLaws}
 use Rattle.theory.specs.Codes.{plus, times}
@@ -19,10 +19,10 @@ pub word_below : {q n : ℕ} {u : List ℕ} → Word q n u → Below q u
 word_below w i h = listed-get_or 0 w i (omega (arith, listed-length w))
 
 -- The same by `All`.
-pub word_all : (q n : ℕ) (u : List ℕ) → length u ≡ n → All (λ a. a < q) u → Word q n u
+pub word_all : (q n : ℕ) (u : List ℕ) → length u ≡ n → AllByRecursion (λ a. a < q) u → Word q n u
 word_all q n u e h = word-from q n u e (λ i l. All-get_or (λ a. a < q) u i 0 l h)
 
-pub word-codes : {q n : ℕ} {u : List ℕ} → Word q n u → All (λ a. a < q) u
+pub word-codes : {q n : ℕ} {u : List ℕ} → Word q n u → AllByRecursion (λ a. a < q) u
 word-codes none = tt
 word-codes (more h w) = (h, word-codes w)
 

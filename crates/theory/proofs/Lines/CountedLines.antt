@@ -1,6 +1,6 @@
 -- Whether a word is counted is a matter of its line, and at a full level each word is.
 use Rattle.std.proofs.Common.{◌≡◌, ℕ, ◌≤◌, Bool, true, false, cond, not, ◌||◌, eqb, leb, List, [], ◌∷◌, length, get_or, sym, refl, ap, subst, ap₂, arith}
-use Rattle.std.specs.List.{AllByRecursion as All}
+use Rattle.std.specs.List.{AllByRecursion}
 use Rattle.std.proofs.lemmas.List.Sums.{count_by-le-length}
 use Rattle.std.proofs.lemmas.Bool.{both_ways, eqb-true, le-leb, or_left, or_right}
 use Rattle.theory.specs.Meanings.{FieldMeaning, FieldLaws}
@@ -46,7 +46,7 @@ module _ (c : LinearCode) {negative inverse : ℕ → ℕ} (laws : FieldLaws c.f
       (on_lines-line laws u v (open_visits c s) l))))
 
 module _ (c : LinearCode) where
-  full_finished : (u : List ℕ) (js : List GeneratorForm) (ts : List ℕ) → All (Systematic c) js → length ts ≡ length js → any (λ t. eqb t (length c.rows)) ts ≡ true → finished js ts u ≡ true
+  full_finished : (u : List ℕ) (js : List GeneratorForm) (ts : List ℕ) → AllByRecursion (Systematic c) js → length ts ≡ length js → any (λ t. eqb t (length c.rows)) ts ≡ true → finished js ts u ≡ true
   full_finished u [] [] sys e full = absurd (both_ways false refl full)
   full_finished u [] (t ∷ ts) sys e full = absurd (omega arith)
   full_finished u (j ∷ js) [] sys e full = absurd (omega arith)
@@ -64,6 +64,6 @@ module _ (c : LinearCode) where
       go rec false q full = skip (leb (message_weight j u) t) (finished js ts u) (rec full)
 
   -- At a full level every word is counted.
-  pub full_counted : All (Systematic c) (all_forms c) → (s : Standing) → length s.levels ≡ length (all_forms c) → reads_full c s ≡ true → (u : List ℕ) → counted c s u ≡ true
+  pub full_counted : AllByRecursion (Systematic c) (all_forms c) → (s : Standing) → length s.levels ≡ length (all_forms c) → reads_full c s ≡ true → (u : List ℕ) → counted c s u ≡ true
   unfolding counted
   full_counted sys s sizes full u = or_right (is_zero u) _ (or_left (finished (all_forms c) s.levels u) _ (full_finished u (all_forms c) s.levels sys sizes full))

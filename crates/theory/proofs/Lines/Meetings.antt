@@ -1,7 +1,7 @@
 -- Each line of message weight t is met by exactly one visit of level t, and by none of another level.
 use Rattle.std.proofs.Common.{◌≡◌, ℕ, ◌<◌, Bool, true, false, cond, ◌&&◌, eqb, List, [], map, length, get_or, count_by, sym, refl, ap, ◌∙◌, subst, ap₂, arith}
 use lib.ListN.{length-map}
-use Rattle.std.specs.List.{AllByRecursion as All}
+use Rattle.std.specs.List.{AllByRecursion}
 use Rattle.std.proofs.lemmas.List.Sums.{length-filter}
 use Rattle.std.proofs.ByRecursion.{All-weaker, All-map, All-get_or}
 use Rattle.std.proofs.lemmas.Bool.{eqb-true, eqb-false}
@@ -123,7 +123,7 @@ module _ (c : LinearCode) {negative inverse : ℕ → ℕ} (accepted : Accepted 
             ∙ all (same (support 0 (message j u)) ch)
 
   -- The words of a level are codewords of its message weight.
-  pub level_words : (t : ℕ) → All (λ v. Codeword c v × (message_weight j v ≡ t)) (visits c.field c.n j.rows t)
+  pub level_words : (t : ℕ) → AllByRecursion (λ v. Codeword c v × (message_weight j v ≡ t)) (visits c.field c.n j.rows t)
   unfolding visits
   level_words t = all_joined _ (λ ch. map (visit c j ch) cs) chs (All-weaker (Choice (length j.rows) t) _ (λ ch d. All-map _ (visit c j ch) cs (All-weaker (Coefficients c.field.order t) _ (λ x k. at ch x d k) cs (coefficients_are c.field.order accepted.field_laws.low t).only)) chs (choices_are (length j.rows) t).only)
     where

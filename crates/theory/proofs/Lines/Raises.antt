@@ -1,6 +1,6 @@
 -- What a raise of several visits counts.
 use Rattle.std.proofs.Common.{◌≡◌, ℕ, zero, suc, ◌+◌, ◌-◌, ◌<◌, ◌≤◌, Bool, true, false, cond, not, ◌&&◌, ◌||◌, eqb, List, [], ◌++◌, map, length, get_or, take, drop, sum_by, count_by, sym, refl, ap, ◌∙◌, ap₂, inr, add_assoc, arith}
-use Rattle.std.specs.List.{AllByRecursion as All}
+use Rattle.std.specs.List.{AllByRecursion}
 use Rattle.std.proofs.lemmas.List.{length-take, length-drop, get_or-drop}
 use Rattle.std.proofs.lemmas.List.Sums.{sum_by_more, sum_by-append}
 use Rattle.std.proofs.ByRecursion.{All-take, All-drop, All-weaker}
@@ -104,7 +104,7 @@ module _ (c : LinearCode) {negative inverse : ℕ → ℕ} (accepted : Accepted 
       j : GeneratorForm
       j = get_or (all_forms c) i no_form
 
-      new : All (λ v. cond (elsewhere c s i v) 0 (count_by w (multiples c.field v)) ≡ cond (not (elsewhere c s i v)) (cond (p v) 1 0) 0) (coming c s i budget)
+      new : AllByRecursion (λ v. cond (elsewhere c s i v) 0 (count_by w (multiples c.field v)) ≡ cond (not (elsewhere c s i v)) (cond (p v) 1 0) 0) (coming c s i budget)
       new = All-take _ budget (drop (made_in c s) (next_level c s i)) (All-drop _ (made_in c s) (next_level c s i) (All-weaker _ _ (λ v h.
           ap (λ (m : ℕ). cond (elsewhere c s i v) 0 m) (each v h.0 (nonzero_message j v (omega (arith, h.1)))) ∙ sym (cond-not (elsewhere c s i v) (cond (p v) 1 0)))
           (next_level c s i) (level_words c accepted j (form-is_systematic c accepted i form) (level_of c s i + 1))))

@@ -1,6 +1,6 @@
 -- A list of codes as its nonzero entries: the places where they stand (its support) and the entries themselves (its values).
 use Rattle.std.proofs.Common.{◌≡◌, ℕ, zero, suc, ◌+◌, ◌-◌, ◌<◌, ◌≤◌, Bool, true, false, cond, not, eqb, List, [], ◌∷◌, length, get_or, count_by, filter, sym, refl, ap, ◌∙◌, subst, ap₂, arith}
-use Rattle.std.specs.List.{AllByRecursion as All}
+use Rattle.std.specs.List.{AllByRecursion}
 use Rattle.std.proofs.lemmas.Bool.{eqb-true, eqb-false, ne_eqb, not-false, not-true}
 use Rattle.theory.specs.Visits.{Rising}
 use Rattle.theory.proofs.Lists.Counts.{count_by_cons}
@@ -42,13 +42,13 @@ length_spread i (suc k) (a ∷ ch) (b ∷ cs) = go (eqb a i) (length_spread (suc
     go true l r = ap suc l
     go false l r = ap suc r
 
-pub all_spread : (P : ℕ → Type 0) → P 0 → (i k : ℕ) (ch cs : List ℕ) → All P cs → All P (spread i k ch cs)
+pub all_spread : (P : ℕ → Type 0) → P 0 → (i k : ℕ) (ch cs : List ℕ) → AllByRecursion P cs → AllByRecursion P (spread i k ch cs)
 all_spread P z i zero ch cs h = tt
 all_spread P z i (suc k) [] cs h = (z, all_spread P z (suc i) k [] cs h)
 all_spread P z i (suc k) (a ∷ ch) [] h = (z, all_spread P z (suc i) k ch [] h)
 all_spread P z i (suc k) (a ∷ ch) (b ∷ cs) h = go (eqb a i) (all_spread P z (suc i) k ch cs h.1) (all_spread P z (suc i) k (a ∷ ch) (b ∷ cs) h)
   where
-    go : (t : Bool) → All P (spread (suc i) k ch cs) → All P (spread (suc i) k (a ∷ ch) (b ∷ cs)) → All P (cond t (b ∷ spread (suc i) k ch cs) (0 ∷ spread (suc i) k (a ∷ ch) (b ∷ cs)))
+    go : (t : Bool) → AllByRecursion P (spread (suc i) k ch cs) → AllByRecursion P (spread (suc i) k (a ∷ ch) (b ∷ cs)) → AllByRecursion P (cond t (b ∷ spread (suc i) k ch cs) (0 ∷ spread (suc i) k (a ∷ ch) (b ∷ cs)))
     go true l r = (h.0, l)
     go false l r = (z, r)
 
@@ -56,7 +56,7 @@ abbrev pub Parts : ℕ → List ℕ → List ℕ → List ℕ → Type 0
 Parts i m ch cs = (support i m ≡ ch) × (values m ≡ cs)
 
 -- The support and the values of what is spread are what was spread.
-pub spread_parts : (i e k : ℕ) (ch cs : List ℕ) → i + k ≡ e → Rising i e ch → length cs ≡ length ch → All (λ b. 0 < b) cs → Parts i (spread i k ch cs) ch cs
+pub spread_parts : (i e k : ℕ) (ch cs : List ℕ) → i + k ≡ e → Rising i e ch → length cs ≡ length ch → AllByRecursion (λ b. 0 < b) cs → Parts i (spread i k ch cs) ch cs
 spread_parts i e zero [] [] q r l h = (refl, refl)
 spread_parts i e zero [] (b ∷ cs) q r l h = absurd (omega arith)
 spread_parts i e zero (a ∷ ch) cs q r l h = absurd (omega (arith, r.0, rising_le (suc a) e ch r.1))
@@ -90,11 +90,11 @@ rising_support i e (x ∷ m) q = go (nonzero x) (rising_support (suc i) e m (ome
     go true r = (omega arith, r)
     go false r = rising_lower (suc i) i e (support (suc i) m) (omega arith) r
 
-pub all_values : (P : ℕ → Type 0) (m : List ℕ) → All P m → All (λ a. (0 < a) × P a) (values m)
+pub all_values : (P : ℕ → Type 0) (m : List ℕ) → AllByRecursion P m → AllByRecursion (λ a. (0 < a) × P a) (values m)
 all_values P [] h = tt
 all_values P (x ∷ m) h = go (nonzero x) refl (all_values P m h.1)
   where
-    go : (t : Bool) → nonzero x ≡ t → All (λ a. (0 < a) × P a) (values m) → All (λ a. (0 < a) × P a) (cond t (x ∷ values m) (values m))
+    go : (t : Bool) → nonzero x ≡ t → AllByRecursion (λ a. (0 < a) × P a) (values m) → AllByRecursion (λ a. (0 < a) × P a) (cond t (x ∷ values m) (values m))
     go true t r = ((pos_nonzero x t, h.0), r)
     go false t r = r
 

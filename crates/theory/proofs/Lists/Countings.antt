@@ -1,6 +1,6 @@
 -- The numbers counted up from a: one more at the end, a sum and a test over them, and what holds of each.
 use Rattle.std.proofs.Common.{◌≡◌, ℕ, zero, suc, ◌+◌, ◌<◌, ◌≤◌, Bool, cond, [], ◌∷◌, ◌++◌, map, sum_by, count_by, sym, refl, ap, ◌∙◌, add-zero, arith}
-use Rattle.std.specs.List.{range_with_len, AllByRecursion as All}
+use Rattle.std.specs.List.{range_with_len, AllByRecursion}
 use Rattle.theory.specs.Codes.{any}
 use Rattle.theory.proofs.Lists.Tests.{any-map}
 use Rattle.theory.proofs.Lists.Sums.{sum_by-map}
@@ -22,6 +22,6 @@ count_by_counting p a n = sum_by_counting (λ i. cond (p i) 1 0) a n
 pub any_counting : (p : ℕ → Bool) (a n : ℕ) → any p (range_with_len (suc a) n) ≡ any (λ i. p (suc i)) (range_with_len a n)
 any_counting p a n = ap (any p) (counting_next a n) ∙ any-map p suc (range_with_len a n)
 
-pub all_counting : (P : ℕ → Type 0) (a n : ℕ) → ((b : ℕ) → a ≤ b → b < a + n → P b) → All P (range_with_len a n)
+pub all_counting : (P : ℕ → Type 0) (a n : ℕ) → ((b : ℕ) → a ≤ b → b < a + n → P b) → AllByRecursion P (range_with_len a n)
 all_counting P a zero h = tt
 all_counting P a (suc n) h = (h a (omega arith) (omega arith), all_counting P (a + 1) n (λ b l g. h b (omega arith) (omega arith)))

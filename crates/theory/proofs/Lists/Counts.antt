@@ -1,6 +1,6 @@
 -- How many elements of a list pass a test.
 use Rattle.std.proofs.Common.{◌≡◌, ℕ, ◌+◌, ◌<◌, ◌≤◌, Bool, true, false, cond, not, ◌&&◌, ◌||◌, eqb, List, [], ◌∷◌, map, length, count_by, filter, sym, refl, ap, ◌∙◌, subst, inl, inr, ⊎_elim, add-zero, arith}
-use Rattle.std.specs.List.{AllByRecursion as All}
+use Rattle.std.specs.List.{AllByRecursion}
 use Rattle.std.proofs.ByRecursion.{All-weaker}
 use Rattle.std.proofs.lemmas.Bool.{both_ways, and_parts, eqb-true, eq-eqb, cases_eq, cases_Bool}
 use Rattle.std.proofs.lemmas.List.Sums.{sum_by-cons}
@@ -36,7 +36,7 @@ module _ {X : Type 0} where
   count_by-same p q xs h = omega (arith, count_by_weaker p q xs (λ x i e. sym (h x i) ∙ e), count_by_weaker q p xs (λ x i e. h x i ∙ e))
 
   -- The same, with the tests compared by `All`.
-  pub count_by_all : (p q : X → Bool) (xs : List X) → All (λ x. p x ≡ q x) xs → count_by p xs ≡ count_by q xs
+  pub count_by_all : (p q : X → Bool) (xs : List X) → AllByRecursion (λ x. p x ≡ q x) xs → count_by p xs ≡ count_by q xs
   count_by_all p q xs h = count_by-same p q xs (all_in (λ x. p x ≡ q x) xs h)
 
   pub count_by_kept : (p q : X → Bool) (xs : List X) → count_by q (filter p xs) ≡ count_by (λ x. p x && q x) xs
@@ -147,7 +147,7 @@ module _ {X : Type 0} (p : X → Bool) where
 
 module _ {X : Type 0} where
   -- Where d joins b, and each of d was in b or none was, the count grows by nothing or by those of d.
-  pub count_by_joining : (a b d w : X → Bool) (e : Bool) (xs : List X) → All (λ x. (a x ≡ (b x || d x)) × (d x ≡ true → b x ≡ e)) xs
+  pub count_by_joining : (a b d w : X → Bool) (e : Bool) (xs : List X) → AllByRecursion (λ x. (a x ≡ (b x || d x)) × (d x ≡ true → b x ≡ e)) xs
       → count_by (λ x. a x && w x) xs ≡ count_by (λ x. b x && w x) xs + cond e 0 (count_by (λ x. w x && d x) xs)
   count_by_joining a b d w true xs h = count_by_all _ _ xs (All-weaker _ _ (λ x k. ap (λ (t : Bool). t && w x) (at (a x) (b x) (d x) k.0 k.1)) xs h) ∙ sym (add-zero (count_by (λ x. b x && w x) xs))
     where
@@ -176,7 +176,7 @@ count_by_kept_all p q xs h = count_by_kept q p xs ∙ count_by-same (λ x. q x &
     go false false k = refl
 
 -- No element passes where none is counted.
-pub count_by-zero : {X Y : Type 0} (p : X → Bool) (g : X → Y) (y : Y) (xs : List X) → ((x : X) → p x ≡ false → g x ≡ y) → count_by p xs ≤ 0 → All (λ z. z ≡ y) (map g xs)
+pub count_by-zero : {X Y : Type 0} (p : X → Bool) (g : X → Y) (y : Y) (xs : List X) → ((x : X) → p x ≡ false → g x ≡ y) → count_by p xs ≤ 0 → AllByRecursion (λ z. z ≡ y) (map g xs)
 count_by-zero p g y [] h e = tt
 count_by-zero p g y (x ∷ xs) h e = (go (p x) refl, count_by-zero p g y xs h (omega (arith, count_by_cons p x xs)))
   where

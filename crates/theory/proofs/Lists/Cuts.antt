@@ -1,6 +1,6 @@
 -- Fronts and filters of a list, and two places of it set.
 use Rattle.std.proofs.Common.{◌≡◌, ℕ, zero, suc, Bool, true, false, cond, List, [], ◌∷◌, ◌++◌, map, length, take, set, filter, sym, refl, ap, ◌∙◌, inl, inr, append_assoc, arith, length-append}
-use Rattle.std.specs.List.{AllByRecursion as All}
+use Rattle.std.specs.List.{AllByRecursion}
 use Rattle.std.proofs.lemmas.List.{set_at}
 use Rattle.theory.proofs.Lists.Members.{In, all_in}
 
@@ -14,10 +14,10 @@ module _ {X : Type 0} where
   kept_by_same p q [] h = refl
   kept_by_same p q (x ∷ xs) h = ap (λ l. cond (p x) (x ∷ l) l) (kept_by_same p q xs (λ y i. h y (inr i))) ∙ ap (λ b. cond b (x ∷ filter q xs) (filter q xs)) (h x (inl refl))
 
-  pub kept_by_all : (p q : X → Bool) (xs : List X) → All (λ x. p x ≡ q x) xs → filter p xs ≡ filter q xs
+  pub kept_by_all : (p q : X → Bool) (xs : List X) → AllByRecursion (λ x. p x ≡ q x) xs → filter p xs ≡ filter q xs
   kept_by_all p q xs h = kept_by_same p q xs (all_in (λ x. p x ≡ q x) xs h)
 
-  pub kept_by_none : (p : X → Bool) (xs : List X) → All (λ x. p x ≡ false) xs → filter p xs ≡ []
+  pub kept_by_none : (p : X → Bool) (xs : List X) → AllByRecursion (λ x. p x ≡ false) xs → filter p xs ≡ []
   kept_by_none p [] h = refl
   kept_by_none p (x ∷ xs) h = ap (λ b. cond b (x ∷ filter p xs) (filter p xs)) h.0 ∙ kept_by_none p xs h.1
 

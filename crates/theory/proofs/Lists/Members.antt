@@ -1,7 +1,7 @@
 -- What stands in a list: `in-` shows that something does, and `of-` tells where it comes from.
 use Rattle.std.proofs.Common.{◌≡◌, ℕ, zero, suc, ◌+◌, ◌<◌, ◌≤◌, Bool, true, false, cond, ◌⊎◌, List, [], ◌∷◌, ◌++◌, map, reverse, length, get_or, take, drop, filter, sym, refl, ap, ◌∙◌, subst, inl, inr, ⊎_elim, arith}
 use mathlib.Core.List.{reverse-cons}
-use Rattle.std.specs.List.{range_with_len, flat_map, AllByRecursion as All}
+use Rattle.std.specs.List.{range_with_len, flat_map, AllByRecursion}
 use Rattle.std.proofs.lemmas.Bool.{cases_eq, cond-true, cond_both}
 
 abbrev pub In : {X : Type 0} → X → List X → Type 0
@@ -75,12 +75,12 @@ module _ {X : Type 0} where
   of-drop x (suc n) [] m = m
   of-drop x (suc n) (y ∷ xs) m = inr (of-drop x n xs m)
 
-  pub all_in : (P : X → Type 0) (xs : List X) → All P xs → (x : X) → In x xs → P x
+  pub all_in : (P : X → Type 0) (xs : List X) → AllByRecursion P xs → (x : X) → In x xs → P x
   all_in P [] a x m = absurd m
   all_in P (y ∷ xs) a x (inl e) = subst P e a.0
   all_in P (y ∷ xs) a x (inr m) = all_in P xs a.1 x m
 
-  pub all_from-in : (P : X → Type 0) (xs : List X) → ((x : X) → In x xs → P x) → All P xs
+  pub all_from-in : (P : X → Type 0) (xs : List X) → ((x : X) → In x xs → P x) → AllByRecursion P xs
   all_from-in P [] h = tt
   all_from-in P (y ∷ xs) h = (h y (inl refl), all_from-in P xs (λ x m. h x (inr m)))
 

@@ -1,7 +1,7 @@
 -- Counts of one: in what places, and lists that hold exactly the words of a kind, each once.
 use Rattle.std.proofs.Common.{◌≡◌, ℕ, zero, suc, ◌+◌, ◌<◌, ◌≤◌, Bool, true, false, cond, ◌&&◌, List, [], ◌∷◌, length, get_or, sum_by, count_by, sym, refl, ap, ◌∙◌, ap₂, arith}
 use native.Mathlib.Nat.{suc_inj}
-use Rattle.std.specs.List.{AllByRecursion as All}
+use Rattle.std.specs.List.{AllByRecursion}
 use Rattle.std.proofs.ByRecursion.{All-weaker}
 use Rattle.std.proofs.lemmas.Bool.{both_ways}
 use Rattle.theory.specs.Codes.{same, any, Exactly}
@@ -67,7 +67,7 @@ distinct-once xs d x m =
     let r = place_of x xs [] m in
     count_one (same x) [] xs r.0 (r.1, (decides_same x (get_or xs r.0 [])).1 (sym r.2), λ k l t. distinct_places xs d k r.0 [] l r.1 (sym ((decides_same x (get_or xs k [])).0 t) ∙ sym r.2))
 
-pub exactly_from : (P : List ℕ → Type 0) (xs : List (List ℕ)) → Distinct xs → All P xs → ((x : List ℕ) → P x → In x xs) → Exactly P xs
+pub exactly_from : (P : List ℕ → Type 0) (xs : List (List ℕ)) → Distinct xs → AllByRecursion P xs → ((x : List ℕ) → P x → In x xs) → Exactly P xs
 exactly_from P xs d all each = record { only = all; once = λ x h. distinct-once xs d x (each x h) }
 
 abbrev pub both : Bool → Bool → ℕ
@@ -86,7 +86,7 @@ same_moves p u x = go (same u x) refl
         none false = refl
 
 -- Among words ys that hold each of xs once, those that stand in xs are counted in xs, where no word stands twice in xs.
-pub count_by-listed : (p : List ℕ → Bool) (xs ys : List (List ℕ)) → All (λ x. count_by (same x) ys ≡ 1) xs → ((u : List ℕ) → count_by (same u) xs ≤ 1) → count_by (λ u. p u && any (same u) xs) ys ≡ count_by p xs
+pub count_by-listed : (p : List ℕ → Bool) (xs ys : List (List ℕ)) → AllByRecursion (λ x. count_by (same x) ys ≡ 1) xs → ((u : List ℕ) → count_by (same u) xs ≤ 1) → count_by (λ u. p u && any (same u) xs) ys ≡ count_by p xs
 count_by-listed p xs ys each apart =
     sum_by_ext (λ u. cond (p u && any (same u) xs) 1 0) (λ u. sum_by (λ x. both (p x) (same x u)) xs) (λ u. at u (p u) ∙ sum_by_ext _ _ (same_moves p u) xs) ys
     ∙ sum_by-swap (λ u x. both (p x) (same x u)) ys xs

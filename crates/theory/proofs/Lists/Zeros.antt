@@ -1,6 +1,6 @@
 -- Words of zeros.
 use Rattle.std.proofs.Common.{◌≡◌, ℕ, zero, suc, true, eqb, List, [], ◌∷◌, ◌++◌, length, get_or, replicate, Decides, refl, ap, ap₂}
-use Rattle.std.specs.List.{AllByRecursion as All}
+use Rattle.std.specs.List.{AllByRecursion}
 use Rattle.std.proofs.lemmas.Bool.{and_parts, and_from, eqb-true, eq-eqb}
 use Rattle.theory.specs.Codes.{is_zero}
 
@@ -17,7 +17,7 @@ pub is_zero-replicate : (n : ℕ) → is_zero (replicate n 0) ≡ true
 is_zero-replicate zero = refl
 is_zero-replicate (suc n) = and_from (eqb 0 0) _ (eq-eqb 0 0 refl) (is_zero-replicate n)
 
-pub zeros_from : (u : List ℕ) → All (λ a. a ≡ 0) u → u ≡ replicate (length u) 0
+pub zeros_from : (u : List ℕ) → AllByRecursion (λ a. a ≡ 0) u → u ≡ replicate (length u) 0
 zeros_from [] h = refl
 zeros_from (a ∷ u) h = ap₂ ◌∷◌ h.0 (zeros_from u h.1)
 

@@ -2,7 +2,7 @@
 use Rattle.std.proofs.Common.{◌≡◌, ℕ, zero, suc, ◌+◌, ◌-◌, ◌*◌, ◌^◌, ◌<◌, ◌≤◌, List, [], ◌∷◌, ◌++◌, map, length, get_or, take, drop, replicate, sym, refl, ap, ◌∙◌, subst, inl, inr, arith, length-drop, length-take}
 use native.Mathlib.Nat.{pow-succ', pow-zero}
 use lib.ListN.{length-map, length-replicate}
-use Rattle.std.specs.List.{range_with_len, AllByRecursion as All}
+use Rattle.std.specs.List.{range_with_len, AllByRecursion}
 use Rattle.std.proofs.lemmas.List.FromFn.{length-range_with_len}
 use Rattle.std.proofs.lemmas.List.{get_or-drop, get_or-replicate, ext_get_or, take-append-drop, drop_more}
 use Rattle.std.proofs.ByRecursion.{All-take, All-get_or}
@@ -14,7 +14,7 @@ use Rattle.theory.proofs.Lists.Neighbours.{First, Last, Follows, first-map, last
 
 -- Codes from 1 to q - 1.
 abbrev pub Nonzero : ℕ → List ℕ → Type 0
-Nonzero q cs = All (λ c. (1 ≤ c) × (c < q)) cs
+Nonzero q cs = AllByRecursion (λ c. (1 ≤ c) × (c < q)) cs
 
 module _ (q : ℕ) where
   -- The lists that begin with c.

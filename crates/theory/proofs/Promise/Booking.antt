@@ -1,6 +1,6 @@
 -- The roll in a raise, visit by visit.
 use Rattle.std.proofs.Common.{◌≡◌, ℕ, ◌+◌, ◌<◌, ◌≤◌, min, Bool, true, false, cond, not, eqb, ltb, ◌⊎◌, List, [], ◌∷◌, ◌++◌, map, length, get_or, take, drop, Some, None, filter, Option, sym, refl, ap, ◌∙◌, ap₂, inl, inr, append_assoc, append-nil, arith}
-use Rattle.std.specs.List.{AllByRecursion as All}
+use Rattle.std.specs.List.{AllByRecursion}
 use Rattle.std.proofs.lemmas.List.{take_more, get_or-drop, map-append, length-drop}
 use Rattle.std.proofs.lemmas.List.Elements.{filter-append}
 use Rattle.std.proofs.lemmas.Bool.{cases_order, eq-eqb, ne_eqb, lt-ltb, le-ltb}
@@ -24,7 +24,7 @@ lesser_under None x b h = (tt, h)
 lesser_under (Some a) x b h = (omega arith, omega arith)
 
 -- The least is at most where it began and at most each of the list.
-least_under : (o : Option ℕ) (xs : List ℕ) (b : ℕ) → lesser_all o xs ≡ Some b → Under o b × All (λ x. b ≤ x) xs
+least_under : (o : Option ℕ) (xs : List ℕ) (b : ℕ) → lesser_all o xs ≡ Some b → Under o b × AllByRecursion (λ x. b ≤ x) xs
 least_under None [] b e = (tt, tt)
 least_under (Some a) [] b e = (let q : a ≡ b = cc in omega arith, tt)
 least_under o (x ∷ xs) b e = let r = least_under (lesser o x) xs b e in let h = lesser_under o x b r.0 in (h.0, (h.1, r.1))
@@ -59,10 +59,10 @@ module _ (c : LinearCode) where
       one false = refl
 
   -- A lighter line leaves none of the lines before.
-  lightest-none : (b w : ℕ) (us : List (List ℕ)) → w < b → All (λ x. b ≤ x) (map weight-of us) → lightest c (Some w) us ≡ []
+  lightest-none : (b w : ℕ) (us : List (List ℕ)) → w < b → AllByRecursion (λ x. b ≤ x) (map weight-of us) → lightest c (Some w) us ≡ []
   lightest-none b w us l h = ap (map (λ u. entry w (leader c u))) (kept_by_none (λ u. eqb (weight-of u) w) us (go us h))
     where
-      go : (us : List (List ℕ)) → All (λ x. b ≤ x) (map weight-of us) → All (λ u. eqb (weight-of u) w ≡ false) us
+      go : (us : List (List ℕ)) → AllByRecursion (λ x. b ≤ x) (map weight-of us) → AllByRecursion (λ u. eqb (weight-of u) w ≡ false) us
       go [] h = tt
       go (u ∷ us) h = (ne_eqb (weight-of u) w (λ e. omega (arith, h.0, e, l)), go us h.1)
 
@@ -76,7 +76,7 @@ module _ (c : LinearCode) where
   rolled_push slots o roll (u ∷ us) v None e = absurd (let r = (least-none o (map weight-of (u ∷ us)) e).1 in let z : ◌≡◌ {A = ℕ} (length (map weight-of (u ∷ us))) 0 = ap length r in omega arith)
   rolled_push slots o roll us v (Some b) e = go (cases_order (weight-of v) b)
     where
-      under : Under o b × All (λ x. b ≤ x) (map weight-of us)
+      under : Under o b × AllByRecursion (λ x. b ≤ x) (map weight-of us)
       under = least_under o (map weight-of us) b e
 
       go : (weight-of v ≡ b) ⊎ ((weight-of v < b) ⊎ (b < weight-of v)) → rolled slots o roll (us ++ (v ∷ [])) (Some (min b (weight-of v))) ≡ booked slots (Some b) (rolled slots o roll us (Some b)) v

@@ -1,6 +1,6 @@
 -- Why a codeword that is not counted weighs at least the bound.
 use Rattle.std.proofs.Common.{◌≡◌, ℕ, zero, suc, ◌<◌, ◌≤◌, Bool, true, false, cond, not, ◌&&◌, ◌||◌, T, eqb, leb, List, [], ◌∷◌, ◌++◌, length, get_or, sum_by, count_by, refl, ap, ◌∙◌, arith}
-use Rattle.std.specs.List.{range_with_len, AllByRecursion as All}
+use Rattle.std.specs.List.{range_with_len, AllByRecursion}
 use Rattle.std.proofs.lemmas.List.Sums.{sum_by-cons, length-filter}
 use Rattle.std.proofs.ByRecursion.{All-weaker}
 use Rattle.std.proofs.lemmas.Bool.{both_ways, and_parts, eq-eqb, leb-false, or_parts, eqb-false}
@@ -38,7 +38,7 @@ module _ (c : LinearCode) (u : List ℕ) where
   unfinished_parts false r e = (refl, e)
 
   -- A word unfinished in every form has as many nonzero symbols outside what was used.
-  pub bound_outside : (used : List ℕ) (js : List GeneratorForm) (ts : List ℕ) → All (Systematic c) js → Ranked used js → finished js ts u ≡ false → bound_over (length c.rows) js ts ≤ count_by (outside used) (range_with_len 0 c.n)
+  pub bound_outside : (used : List ℕ) (js : List GeneratorForm) (ts : List ℕ) → AllByRecursion (Systematic c) js → Ranked used js → finished js ts u ≡ false → bound_over (length c.rows) js ts ≤ count_by (outside used) (range_with_len 0 c.n)
   bound_outside used [] ts sys rank e = omega arith
   bound_outside used (j ∷ js) [] sys rank e = omega arith
   bound_outside used (j ∷ js) (t ∷ ts) sys rank e =
@@ -58,7 +58,7 @@ module _ (c : LinearCode) (u : List ℕ) where
       omega (arith, heavy, new, both, size, apart, rest, same)
 
 -- Each nonzero symbol weighs at least 1.
-nonzero_le-sum : (g : ℕ → ℕ) (u : List ℕ) (n : ℕ) → All (λ x. 0 < x → 1 ≤ g x) u → count_by (nonzero_at u) (range_with_len 0 n) ≤ sum_by g u
+nonzero_le-sum : (g : ℕ → ℕ) (u : List ℕ) (n : ℕ) → AllByRecursion (λ x. 0 < x → 1 ≤ g x) u → count_by (nonzero_at u) (range_with_len 0 n) ≤ sum_by g u
 nonzero_le-sum g [] n h = omega (arith, count_by-none (λ p. not (eqb 0 0)) (range_with_len 0 n) (λ p. ap not (eq-eqb 0 0 refl)))
 nonzero_le-sum g (x ∷ u) zero h = omega arith
 nonzero_le-sum g (x ∷ u) (suc n) h = omega (arith, sum_by-cons g x u, count_by_cons (nonzero_at (x ∷ u)) 0 (range_with_len 1 n), count_by_counting (nonzero_at (x ∷ u)) 0 n, nonzero_le-sum g u n h.1, go (eqb x 0) refl)
@@ -71,7 +71,7 @@ module _ (c : LinearCode) {negative inverse : ℕ → ℕ} (accepted : Accepted 
   pub nonzero_le-weight : (u : List ℕ) → Codeword c u → count_by (nonzero_at u) (range_with_len 0 c.n) ≤ weigh c.weight u
   nonzero_le-weight u w = nonzero_le-sum c.weight.of u c.n (All-weaker (λ x. x < c.field.order) (λ x. 0 < x → 1 ≤ c.weight.of x) (λ x k p. accepted.weight_laws.positive x p (omega (arith, k, accepted.orders))) u (codeword-codes c accepted.field_laws u w))
 
-  module _ (systematic : All (Systematic c) (all_forms c)) (ranked : Ranked [] (all_forms c)) where
+  module _ (systematic : AllByRecursion (Systematic c) (all_forms c)) (ranked : Ranked [] (all_forms c)) where
     pub strong_by : (s : Standing) (u : List ℕ) → Codeword c u → counted c s u ≡ false → bound c s ≤ weigh c.weight u
     unfolding bound counted
     strong_by s u w e =

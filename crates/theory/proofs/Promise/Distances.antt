@@ -1,6 +1,6 @@
 -- When the best is the least distance, and when the lines of that weight are all counted.
 use Rattle.std.proofs.Common.{◌≡◌, ℕ, ◌<◌, ◌≤◌, Bool, true, false, cond, ◌&&◌, eqb, ltb, leb, ◌⊎◌, List, [], length, Some, None, Option, refl, ◌∙◌, inl, inr, ⊎_elim, arith}
-use Rattle.std.specs.List.{AllByRecursion as All}
+use Rattle.std.specs.List.{AllByRecursion}
 use Rattle.std.proofs.lemmas.Bool.{both_ways, and_parts, eqb-true, leb-true, ltb-true}
 use Rattle.theory.specs.Codes.{codewords, is_zero, leads, weigh, line_weight}
 use Rattle.theory.specs.Standings.{LinearCode, Standing, counted, counted_words, best, line_count, bound, reads_full, LedgerReading, still_open, complete, all_forms}
@@ -15,7 +15,7 @@ use Rattle.theory.proofs.Promise.Bounds.{strong_by}
 use Rattle.theory.proofs.Lines.CountedLines.{counted-line, full_counted}
 use Rattle.theory.proofs.Promise.CountedLeaders.{CountedLeader, best-at, best_under, best_none, line_count-at, some-codeword}
 
-module _ (c : LinearCode) {negative inverse : ℕ → ℕ} (accepted : Accepted c negative inverse) (systematic : All (Systematic c) (all_forms c)) (ranked : Ranked [] (all_forms c)) (s : Standing) (sizes : length s.levels ≡ length (all_forms c)) where
+module _ (c : LinearCode) {negative inverse : ℕ → ℕ} (accepted : Accepted c negative inverse) (systematic : AllByRecursion (Systematic c) (all_forms c)) (ranked : Ranked [] (all_forms c)) (s : Standing) (sizes : length s.levels ≡ length (all_forms c)) where
   -- The leader of the line of a codeword that is not 0, with the line back.
   leader-back : (u : List ℕ) → Codeword c u → is_zero u ≡ false → (v : List ℕ) × Codeword c v × (leads v ≡ true) × Line c.field v u
   leader-back u w z =

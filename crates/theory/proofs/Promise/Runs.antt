@@ -1,6 +1,6 @@
 -- Every run of calls is sound: what each state keeps, and that it makes the promise.
 use Rattle.std.proofs.Common.{◌≡◌, ℕ, ◌≤◌, List, [], ◌∷◌, Some, None, Option, sym, refl, subst}
-use Rattle.std.specs.List.{AllByRecursion as All}
+use Rattle.std.specs.List.{AllByRecursion}
 use Rattle.theory.specs.Standings.{LinearCode, all_forms, best, line_count}
 use Rattle.theory.specs.Promises.{SearchState, Sound, Complete, lines_of, ExactlyTheLines}
 use Rattle.theory.specs.Facts.{Systematic, Ranked, Accepted}
@@ -23,7 +23,7 @@ pub record Kept (c : LinearCode) (x : SearchState) : Type 0 where
   pub holds : Holds c x.standing x.slots x.roll
 
 module _ (c : LinearCode) {negative inverse : ℕ → ℕ} (accepted : Accepted c negative inverse) where
-  systematic : All (Systematic c) (all_forms c)
+  systematic : AllByRecursion (Systematic c) (all_forms c)
   systematic = forms_systematic c accepted
 
   ranked : Ranked [] (all_forms c)

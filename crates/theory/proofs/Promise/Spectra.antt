@@ -1,6 +1,6 @@
 -- What a search has counted of each weight, against what the code has.
 use Rattle.std.proofs.Common.{◌≡◌, ℕ, ◌<◌, ◌≤◌, Bool, true, false, ◌&&◌, eqb, List, [], count_by, refl, arith}
-use Rattle.std.specs.List.{AllByRecursion as All}
+use Rattle.std.specs.List.{AllByRecursion}
 use Rattle.std.proofs.lemmas.Bool.{and_parts, eqb-true}
 use Rattle.theory.specs.Codes.{codewords, weigh}
 use Rattle.theory.specs.Standings.{LinearCode, Standing, counted, spectrum, bound, all_forms}
@@ -17,7 +17,7 @@ never_more c s w =
     let words : List (List ℕ) = codewords c.field c.n c.rows in
     omega (arith, count_by_kept (counted c s) p words, count_by_weaker (λ u. counted c s u && p u) p words (λ u i e. (and_parts (counted c s u) (p u) e).1))
 
-module _ (c : LinearCode) {negative inverse : ℕ → ℕ} (accepted : Accepted c negative inverse) (systematic : All (Systematic c) (all_forms c)) (ranked : Ranked [] (all_forms c)) where
+module _ (c : LinearCode) {negative inverse : ℕ → ℕ} (accepted : Accepted c negative inverse) (systematic : AllByRecursion (Systematic c) (all_forms c)) (ranked : Ranked [] (all_forms c)) where
   -- What weighs less than the bound is counted.
   pub light_counted : (s : Standing) (u : List ℕ) → In u (codewords c.field c.n c.rows) → weigh c.weight u < bound c s → counted c s u ≡ true
   light_counted s u i light = go (counted c s u) refl

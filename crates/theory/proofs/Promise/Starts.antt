@@ -1,7 +1,7 @@
 -- After the making only the zero word is counted: the spectrum, the best, the line count and the roll are those of an empty search.
 use Rattle.std.proofs.Common.{◌≡◌, ℕ, zero, suc, ◌≤◌, Bool, true, false, cond, not, ◌&&◌, eqb, leb, List, [], ◌∷◌, map, length, get_or, replicate, Some, None, count_by, Option, sym, refl, ap, ◌∙◌, subst, ⊎_elim, arith}
 use lib.ListN.{length-map}
-use Rattle.std.specs.List.{AllByRecursion as All}
+use Rattle.std.specs.List.{AllByRecursion}
 use Rattle.std.proofs.ByRecursion.{All-weaker}
 use Rattle.std.proofs.lemmas.List.Sums.{sum_by-cons}
 use Rattle.std.proofs.lemmas.Bool.{both_ways, or_cases, or_left, leb-true, eqb-true, not-false}
@@ -28,13 +28,13 @@ module _ (c : LinearCode) {negative inverse : ℕ → ℕ} (laws : FieldLaws c.f
   light_zero : (j : GeneratorForm) → Systematic c j → (u : List ℕ) → Codeword c u → message_weight j u ≤ 0 → is_zero u ≡ true
   light_zero j sys u w e = ap is_zero (sys.generates u w ∙ ap (λ m. combination c.field c.n m j.rows) (zeros_from _ none ∙ ap (λ k. replicate k 0) long) ∙ combination-zero laws (rows_from c.field c.n j.rows sys.row_matrix)) ∙ is_zero-replicate c.n
     where
-      none : All (λ a. a ≡ 0) (map (λ p. get_or u p 0) j.positions)
+      none : AllByRecursion (λ a. a ≡ 0) (map (λ p. get_or u p 0) j.positions)
       none = count_by-zero (λ p. not (eqb (get_or u p 0) 0)) (λ p. get_or u p 0) 0 j.positions (λ p q. eqb-true _ 0 (not-false _ q)) e
 
       long : length (map (λ p. get_or u p 0) j.positions) ≡ length j.rows
       long = length-map j.positions (λ p. get_or u p 0) ∙ sys.size ∙ sym sys.row_count
 
-  unstarted : (js : List GeneratorForm) → All (Systematic c) js → (u : List ℕ) → Codeword c u → finished js (replicate (length js) 0) u ≡ true → is_zero u ≡ true
+  unstarted : (js : List GeneratorForm) → AllByRecursion (Systematic c) js → (u : List ℕ) → Codeword c u → finished js (replicate (length js) 0) u ≡ true → is_zero u ≡ true
   unstarted [] sys u w e = absurd (both_ways false refl e)
   unstarted (j ∷ js) sys u w e = go (unstarted js sys.1 u w) (leb (message_weight j u) 0) refl e
     where
@@ -42,7 +42,7 @@ module _ (c : LinearCode) {negative inverse : ℕ → ℕ} (laws : FieldLaws c.f
       go rec true q e = light_zero j sys.0 u w (leb-true _ 0 q)
       go rec false q e = rec e
 
-  module _ (systematic : All (Systematic c) (all_forms c)) (slots : ℕ) where
+  module _ (systematic : AllByRecursion (Systematic c) (all_forms c)) (slots : ℕ) where
     pub start-zero : (u : List ℕ) → Codeword c u → counted c (start c slots).standing u ≡ true → is_zero u ≡ true
     unfolding counted
     start-zero u w e = ⊎_elim (λ z. z) (λ r. ⊎_elim (unstarted (all_forms c) systematic u w) (λ e. absurd (both_ways false refl e)) (or_cases (finished (all_forms c) (replicate (length (all_forms c)) 0) u) false r)) (or_cases (is_zero u) _ e)

@@ -1,6 +1,6 @@
 -- First the columns that are not marked are put, then the marked ones, and together they are all.
 use Rattle.std.proofs.Common.{◌≡◌, ◌<◌, take, sym, subst, arith}
-use Rattle.std.specs.List.{AllByRecursion as All}
+use Rattle.std.specs.List.{AllByRecursion}
 use Rattle.forms.specs.ColumnMarks.{column_order}
 use Rattle.forms.proofs.Marks.{as_many-columns, order_is, order_below}
 use Rattle.forms.proofs.columns.order_columns.Goals as goal
@@ -16,4 +16,4 @@ returns c =
     let n = c.args.n in
     let marks = c.args.marks.now in
     let whole : take n c.put_columns.new.order ≡ column_order n marks = order_is n marks c.put_columns-middle.new.order c.put_columns.new.order c.put_columns-middle.ensures.value c.put_columns-middle.ensures.after c.put_columns.ensures.value c.put_columns.ensures.after in
-    record { value = whole; columns = subst (All (λ c. c < n)) (sym whole) (order_below n marks) }
+    record { value = whole; columns = subst (AllByRecursion (λ c. c < n)) (sym whole) (order_below n marks) }
