@@ -1,4 +1,6 @@
 // Entry texts: what stands in them, read part by part and entry by entry, with the first fault at its place.
+#![tactic(auto)]
+
 mod entry_reader;
 mod header;
 mod laws;
