@@ -10,9 +10,9 @@ loop-i-preserved c =
     let s = c.args.symbols.now in
     let i = c.loop-i.i in
     let within : i < length c.loop-i.codes = omega (arith, c.requires, c.loop-i.auto.codes, c.loop-i-test.true) in
-    let value : c.unwrap-or.result ≡ unwrap_or (code_of (get_or s i 0)) 0 = c.unwrap-or.ensures ∙ ap (λ o. unwrap_or o 0) c.symbol_code.ensures.value in
-    take_more_set c.loop-i.codes i c.unwrap-or.result within
-    ∙ ap (λ (front : List ℕ). front ++ c.unwrap-or.result ∷ []) c.loop-i.invariant
+    let value : c.unwrap_or.result ≡ unwrap_or (code_of (get_or s i 0)) 0 = c.unwrap_or.ensures ∙ ap (λ o. unwrap_or o 0) c.symbol_code.ensures.value in
+    take_more_set c.loop-i.codes i c.unwrap_or.result within
+    ∙ ap (λ (front : List ℕ). front ++ c.unwrap_or.result ∷ []) c.loop-i.invariant
     ∙ ap (λ (a : ℕ). row_codes (take i s) ++ a ∷ []) value
     ∙ sym (map_more (λ b. unwrap_or (code_of b) 0) s i 0 c.loop-i-test.true)
 

@@ -7,14 +7,14 @@ use Rattle.entries.specs.declared.refusal.TextRefusal.TheVariants.{BadSymbol}
 use Rattle.entries.specs.Rows.{is_element, symbol_fault}
 use Rattle.entries.proofs.rows.symbol_fault.Goals as goal
 
-pub returns-then-not-is-element : goal.returns-then-not-is-element
-returns-then-not-is-element c =
+pub returns-then-not-is_element : goal.returns-then-not-is_element
+returns-then-not-is_element c =
     let s = c.args.symbols.now in
     let q = c.args.order in
     let i = c.loop-i.i in
     let line = c.args.line in
     let step : symbol_fault q line (i + 1) (drop i s) ≡ cond (is_element q (get_or s i 0)) (symbol_fault q line (i + 1 + 1) (drop (i + 1) s)) (Some (BadSymbol line (i + 1))) = at_drop_more (symbol_fault q line (i + 1)) s i 0 c.loop-i-test.true in
-    record { value = sym (sym c.loop-i.invariant ∙ step ∙ cond-false (is_element q (get_or s i 0)) _ _ (sym c.if-not-is-element.ensures.value)) }
+    record { value = sym (sym c.loop-i.invariant ∙ step ∙ cond-false (is_element q (get_or s i 0)) _ _ (sym c.if-not-is_element.ensures.value)) }
 
 pub loop-i-preserved : goal.loop-i-preserved
 loop-i-preserved c =
@@ -23,7 +23,7 @@ loop-i-preserved c =
     let i = c.loop-i.i in
     let line = c.args.line in
     let step : symbol_fault q line (i + 1) (drop i s) ≡ cond (is_element q (get_or s i 0)) (symbol_fault q line (i + 1 + 1) (drop (i + 1) s)) (Some (BadSymbol line (i + 1))) = at_drop_more (symbol_fault q line (i + 1)) s i 0 c.loop-i-test.true in
-    sym (cond-true (is_element q (get_or s i 0)) _ _ (sym c.if-not-is-element.ensures.value)) ∙ sym step ∙ c.loop-i.invariant
+    sym (cond-true (is_element q (get_or s i 0)) _ _ (sym c.if-not-is_element.ensures.value)) ∙ sym step ∙ c.loop-i.invariant
 
 pub returns : goal.returns
 returns c =

@@ -9,8 +9,8 @@ pub returns : goal.returns
 returns c =
     let line = c.args.line.now in
     let from = c.args.from in
-    let end = c.find-byte-end.result in
-    let found = c.find-byte-end.ensures in
+    let end = c.find_byte-end.result in
+    let found = c.find_byte-end.ensures in
     let long : length (take (end - from) (drop from line)) ≡ end - from = simp (length-take, length-drop) (omega (arith, found.within)) in
     record {
       place = (refl, rw long (omega (arith, found.within)));

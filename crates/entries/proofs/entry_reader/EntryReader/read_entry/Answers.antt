@@ -11,66 +11,66 @@ use Rattle.entries.proofs.Matrices.{size-within, copied_front, joined-codes}
 use Rattle.entries.proofs.WholeEntries.{rows_refuse, end_refuses, entry_whole, lines_past, number_past}
 use Rattle.entries.proofs.entry_reader.EntryReader.read_entry.Goals as goal
 
-pub read-rows-requires : goal.read-rows-requires
-read-rows-requires c =
+pub read_rows-requires : goal.read_rows-requires
+read_rows-requires c =
     let r = c.args.self.now.parts in
-    let read = subst (λ (o : Option Header). HeaderRead r (Ok o)) c.in-Some.is c.in-ok-header.ensures.value in
-    let past = subst (λ (o : Option Header). HeaderPassed r (Ok o) c.read-header.new.parts) c.in-Some.is c.in-ok-header.ensures.after in
+    let read = subst (λ (o : Option Header). HeaderRead r (Ok o)) c.in-Some.is c.in_ok-header.ensures.value in
+    let past = subst (λ (o : Option Header). HeaderPassed r (Ok o) c.read_header.new.parts) c.in-Some.is c.in_ok-header.ensures.after in
     let limits = header-limits (get_or (left r) 0 []) (r.passed + 1) c.in-Some.header read.2 in
-    (subst (λ (s : List ℕ). length s ≤ 60000) (sym c.in-ok-header.ensures.text) read.0, past.2, limits.few, limits.short, refl)
+    (subst (λ (s : List ℕ). length s ≤ 60000) (sym c.in_ok-header.ensures.text) read.0, past.2, limits.few, limits.short, refl)
 
-pub returns-in-err-read-rows : goal.returns-in-err-read-rows
-returns-in-err-read-rows c =
+pub returns-in_err-read_rows : goal.returns-in_err-read_rows
+returns-in_err-read_rows c =
     let r = c.args.self.now.parts in
-    let read = subst (λ (o : Option Header). HeaderRead r (Ok o)) c.in-Some.is c.in-ok-header.ensures.value in
-    let past = subst (λ (o : Option Header). HeaderPassed r (Ok o) c.read-header.new.parts) c.in-Some.is c.in-ok-header.ensures.after in
-    let e = err_from_is_err_and c.from-residual-in-err-read-rows.result c.from-residual-in-err-read-rows.ensures.1 in
+    let read = subst (λ (o : Option Header). HeaderRead r (Ok o)) c.in-Some.is c.in_ok-header.ensures.value in
+    let past = subst (λ (o : Option Header). HeaderPassed r (Ok o) c.read_header.new.parts) c.in-Some.is c.in_ok-header.ensures.after in
+    let e = err_from_is_err_and c.from_residual-in_err-read_rows.result c.from_residual-in_err-read_rows.ensures.1 in
     rw (e.1, e.2)
-    (record { value = rows_refuse r c.read-header.new.parts c.in-Some.header read past _ c.in-err-read-rows.ensures.value; after = refl; codes = refl; text = refl })
+    (record { value = rows_refuse r c.read_header.new.parts c.in-Some.header read past _ c.in_err-read_rows.ensures.value; after = refl; codes = refl; text = refl })
 
-pub returns-in-err-read-end : goal.returns-in-err-read-end
-returns-in-err-read-end c =
+pub returns-in_err-read_end : goal.returns-in_err-read_end
+returns-in_err-read_end c =
     let r = c.args.self.now.parts in
-    let read = subst (λ (o : Option Header). HeaderRead r (Ok o)) c.in-Some.is c.in-ok-header.ensures.value in
-    let past = subst (λ (o : Option Header). HeaderPassed r (Ok o) c.read-header.new.parts) c.in-Some.is c.in-ok-header.ensures.after in
-    let e = err_from_is_err_and c.from-residual-in-err-read-end.result c.from-residual-in-err-read-end.ensures.1 in
+    let read = subst (λ (o : Option Header). HeaderRead r (Ok o)) c.in-Some.is c.in_ok-header.ensures.value in
+    let past = subst (λ (o : Option Header). HeaderPassed r (Ok o) c.read_header.new.parts) c.in-Some.is c.in_ok-header.ensures.after in
+    let e = err_from_is_err_and c.from_residual-in_err-read_end.result c.from_residual-in_err-read_end.ensures.1 in
     rw (e.1, e.2)
-    (record { value = end_refuses r c.read-header.new.parts c.in-Some.header read past c.read-rows.new.parts c.in-ok-read-rows.ensures.value.1 _ c.in-err-read-end.ensures.value; after = refl; codes = refl; text = refl })
+    (record { value = end_refuses r c.read_header.new.parts c.in-Some.header read past c.read_rows.new.parts c.in_ok-read_rows.ensures.value.1 _ c.in_err-read_end.ensures.value; after = refl; codes = refl; text = refl })
 
-pub overflow-mul-size : goal.overflow-mul-size
-overflow-mul-size c =
+pub overflow_mul-size : goal.overflow_mul-size
+overflow_mul-size c =
     let r = c.args.self.now.parts in
-    let read = subst (λ (o : Option Header). HeaderRead r (Ok o)) c.in-Some.is c.in-ok-header.ensures.value in
+    let read = subst (λ (o : Option Header). HeaderRead r (Ok o)) c.in-Some.is c.in_ok-header.ensures.value in
     let limits = header-limits (get_or (left r) 0 []) (r.passed + 1) c.in-Some.header read.2 in
     omega (arith, size-within c.in-Some.header.k c.in-Some.header.n limits.few limits.short)
 
-pub slice-bounds-copy-from-slice-end : goal.slice-bounds-copy-from-slice-end
-slice-bounds-copy-from-slice-end c =
+pub slice_bounds-copy_from_slice-end : goal.slice_bounds-copy_from_slice-end
+slice_bounds-copy_from_slice-end c =
     let r = c.args.self.now.parts in
-    let read = subst (λ (o : Option Header). HeaderRead r (Ok o)) c.in-Some.is c.in-ok-header.ensures.value in
+    let read = subst (λ (o : Option Header). HeaderRead r (Ok o)) c.in-Some.is c.in_ok-header.ensures.value in
     let limits = header-limits (get_or (left r) 0 []) (r.passed + 1) c.in-Some.header read.2 in
     size-within c.in-Some.header.k c.in-Some.header.n limits.few limits.short
 
-pub slice-bounds-copy-from-slice-end-2 : goal.slice-bounds-copy-from-slice-end-2
-slice-bounds-copy-from-slice-end-2 c =
+pub slice_bounds-copy_from_slice-end-2 : goal.slice_bounds-copy_from_slice-end-2
+slice_bounds-copy_from_slice-end-2 c =
     let r = c.args.self.now.parts in
-    let read = subst (λ (o : Option Header). HeaderRead r (Ok o)) c.in-Some.is c.in-ok-header.ensures.value in
+    let read = subst (λ (o : Option Header). HeaderRead r (Ok o)) c.in-Some.is c.in_ok-header.ensures.value in
     let limits = header-limits (get_or (left r) 0 []) (r.passed + 1) c.in-Some.header read.2 in
-    omega (arith, size-within c.in-Some.header.k c.in-Some.header.n limits.few limits.short, c.read-rows.auto.codes)
+    omega (arith, size-within c.in-Some.header.k c.in-Some.header.n limits.few limits.short, c.read_rows.auto.codes)
 
 pub returns : goal.returns
 returns c =
     let r = c.args.self.now.parts in
     let h = c.in-Some.header in
-    let p = c.read-header.new.parts in
-    let q = c.read-rows.new.parts in
-    let read = subst (λ (o : Option Header). HeaderRead r (Ok o)) c.in-Some.is c.in-ok-header.ensures.value in
-    let past = subst (λ (o : Option Header). HeaderPassed r (Ok o) p) c.in-Some.is c.in-ok-header.ensures.after in
-    let rows = c.in-ok-read-rows.ensures in
-    let end = c.in-ok-read-end.ensures in
+    let p = c.read_header.new.parts in
+    let q = c.read_rows.new.parts in
+    let read = subst (λ (o : Option Header). HeaderRead r (Ok o)) c.in-Some.is c.in_ok-header.ensures.value in
+    let past = subst (λ (o : Option Header). HeaderPassed r (Ok o) p) c.in-Some.is c.in_ok-header.ensures.after in
+    let rows = c.in_ok-read_rows.ensures in
+    let end = c.in_ok-read_end.ensures in
     record {
       value = entry_whole r p h read past q rows.value.1 end.value;
-      after = (lines_past r p h read past q c.read-end.new.parts rows.after.0 end.after.0, number_past r p h read past q c.read-end.new.parts rows.value.0 rows.after.0 rows.after.1 end.after.1);
-      codes = copied_front c.copy-from-slice.new.self c.args.codes.now c.read-rows.new.codes _ (h.k * h.n) c.copy-from-slice.ensures.after (rows.value.2 ∙ ap (λ (ls : List (List ℕ)). flat_map row_codes (take h.k ls)) past.0 ∙ joined-codes (take h.k (drop 1 (left r))));
-      text = end.text ∙ rows.text ∙ c.in-ok-header.ensures.text;
+      after = (lines_past r p h read past q c.read_end.new.parts rows.after.0 end.after.0, number_past r p h read past q c.read_end.new.parts rows.value.0 rows.after.0 rows.after.1 end.after.1);
+      codes = copied_front c.copy_from_slice.new.self c.args.codes.now c.read_rows.new.codes _ (h.k * h.n) c.copy_from_slice.ensures.after (rows.value.2 ∙ ap (λ (ls : List (List ℕ)). flat_map row_codes (take h.k ls)) past.0 ∙ joined-codes (take h.k (drop 1 (left r))));
+      text = end.text ∙ rows.text ∙ c.in_ok-header.ensures.text;
     }

@@ -33,11 +33,11 @@ returns-in-Row c =
 pub returns-in-Ending : goal.returns-in-Ending
 returns-in-Ending c =
     let r = c.args.self.now in
-    let part = c.ending-part.ensures in
+    let part = c.ending_part.ensures in
     let value = part.value ∙ ap (λ (d : Due). next_part d (left r) (r.passed + 1)) (sym c.in-Ending.is) in
     record {
       value = value;
       after = part.after;
-      place = placed r c.ending-part.result value part.place;
+      place = placed r c.ending_part.result value part.place;
       text = part.text;
     }

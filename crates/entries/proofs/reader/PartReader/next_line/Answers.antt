@@ -12,8 +12,8 @@ pub returns : goal.returns
 returns c =
     let s = c.args.self.now.text.now in
     let from = c.args.self.now.at in
-    let end = c.find-byte-end.result in
-    let found = c.find-byte-end.ensures in
+    let end = c.find_byte-end.result in
+    let found = c.find_byte-end.ensures in
     record {
       value =
           elim c.if-end-text.branch [
