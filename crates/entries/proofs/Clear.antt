@@ -1,5 +1,5 @@
 -- Words hold no space, and lines no break: their bytes are above those.
-use Rattle.std.proofs.Common.{◌≡◌, ℕ, zero, suc, ◌+◌, ◌<◌, ◌≤◌, Bool, true, false, cond, ◌&&◌, ltb, leb, List, [], ◌∷◌, ◌++◌, map, length, get_or, codes, decimal, sym, refl, ap, ◌∙◌, ⊎_elim, le_of_suc-le-suc, not-suc-le-zero, arith}
+use Rattle.std.proofs.Common.{◌≡◌, ℕ, zero, suc, ◌+◌, ◌<◌, Bool, true, ◌&&◌, ltb, leb, List, [], ◌∷◌, codes, decimal, refl, ⊎_elim, le_of_suc-le-suc, not-suc-le-zero, arith}
 use Rattle.std.specs.List.{join_with_byte, AllByRecursion as All}
 use Rattle.std.specs.Char.{is_ascii_digit}
 use Rattle.std.specs.Str.{all_ascii_digits}
@@ -10,7 +10,6 @@ use Rattle.entries.specs.declared.names.FieldName.TheVariants.{Gf2, Gf3, Gf4, Gf
 use Rattle.entries.specs.declared.names.WeightName.{WeightName}
 use Rattle.entries.specs.declared.names.WeightName.TheVariants.{Hamming, Lee}
 use Rattle.entries.specs.Names.{field_word, weight_word}
-use Rattle.entries.specs.Symbols.{symbol_of}
 use Rattle.entries.specs.Written.{row_line}
 use Rattle.entries.proofs.Numerals.{decimal_digits}
 use Rattle.entries.proofs.Pieces.{Free}

@@ -1,7 +1,6 @@
 -- An entry that is read stands in the text as the format writes it, and an entry so written is read.
-use Rattle.std.proofs.Common.{◌≡◌, ℕ, ◌+◌, ◌*◌, ◌<◌, ◌≤◌, Bool, true, false, cond, ◌&&◌, eqb, ltb, List, [], ◌∷◌, ◌++◌, map, length, get_or, take, drop, Some, None, Ok, Err, codes, decimal, Option, Result, sym, refl, ap, ◌∙◌, ⊎_elim, suc-le-suc, mul-le-mul_left, add-one, arith}
-use Rattle.std.specs.List.{join_with_byte, AllByRecursion as All}
-use Rattle.std.specs.Str.{bytes_eq}
+use Rattle.std.proofs.Common.{◌≡◌, ℕ, ◌+◌, ◌<◌, ◌≤◌, true, cond, eqb, ltb, List, [], ◌∷◌, ◌++◌, map, length, get_or, take, drop, Some, None, Ok, Err, codes, decimal, Option, Result, sym, refl, ap, ◌∙◌, suc-le-suc, mul-le-mul_left, add-one, arith}
+use Rattle.std.specs.List.{join_with_byte}
 use Rattle.std.proofs.lemmas.Fmt.{decimal_nonempty, length-decimal-le}
 use Rattle.std.proofs.lemmas.Slice.Eq.{bytes_eq-Decides}
 use Rattle.std.proofs.lemmas.List.{length-map, length-take-le, length-append}
@@ -14,18 +13,16 @@ use Rattle.entries.specs.declared.names.WeightName.TheVariants.{Hamming, Lee}
 use Rattle.entries.specs.declared.refusal.TextRefusal.{TextRefusal}
 use Rattle.entries.specs.declared.refusal.TextRefusal.TheVariants.{HeaderShape}
 use Rattle.entries.specs.Lines.{words}
-use Rattle.entries.specs.Names.{field_word, weight_word, field_named, weight_named, top, goes_with}
-use Rattle.entries.specs.Numbers.{number_of}
-use Rattle.entries.specs.Headers.{none_empty, header_shaped, within_limits, values_of, header_reading, given}
+use Rattle.entries.specs.Names.{field_word, weight_word, weight_named, goes_with}
+use Rattle.entries.specs.Headers.{none_empty, header_shaped, within_limits, values_of, header_reading}
 use Rattle.entries.specs.Rows.{row_codes}
 use Rattle.entries.specs.Entries.{rows_fault, unless, entry_after, next_entry}
 use Rattle.entries.specs.Written.{WrittenEntry, Lawful, header_line, row_line, entry_lines, entry_in, Ends}
 use Rattle.entries.proofs.Numerals.{number_word, word_number}
 use Rattle.entries.proofs.NameWords.{word-of-field, field-of-word, word-of-weight, weight-of-word, weight_goes, top_most}
-use Rattle.entries.proofs.Pieces.{Free}
 use Rattle.entries.proofs.LineWords.{line_of-words, words-of-line}
 use Rattle.entries.proofs.Clear.{Above, above-free, above_code, above-field, above-weight, above-decimal, above_rejoined, above_less}
-use Rattle.entries.proofs.HeaderValues.{HeaderSays, header_says, Limits, limits_of}
+use Rattle.entries.proofs.HeaderValues.{header_says, Limits, limits_of}
 use Rattle.entries.proofs.RowLines.{rows_good, rows_written}
 
 -- a list of six, element by element

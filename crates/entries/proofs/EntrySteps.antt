@@ -1,5 +1,5 @@
 -- What the header and the end of an entry bring: the entry's figures, its end, or its first fault.
-use Rattle.std.proofs.Common.{◌≡◌, ℕ, suc, ◌+◌, ◌<◌, ◌≤◌, min, Bool, true, false, cond, leb, ◌⊎◌, List, [], ◌∷◌, length, get_or, drop, Some, None, Ok, Err, Option, Result, sym, refl, ap, ◌∙◌, subst, inl, inr, ⊎_elim, suc-le-suc, zero-le, not-suc-le-zero, add-zero, arith}
+use Rattle.std.proofs.Common.{◌≡◌, ℕ, suc, ◌+◌, ◌<◌, ◌≤◌, min, true, leb, ◌⊎◌, List, [], ◌∷◌, length, get_or, drop, Some, None, Ok, Err, Option, Result, sym, refl, ap, ◌∙◌, inl, inr, ⊎_elim, suc-le-suc, zero-le, not-suc-le-zero, add-zero, arith}
 use Rattle.std.proofs.lemmas.Bool.{leb-true, le-leb, cases_Bool, cond-true, cond-false}
 use Rattle.entries.specs.declared.header.Header.{Header}
 use Rattle.entries.specs.declared.header.HeaderWords.{HeaderWords}
@@ -10,7 +10,7 @@ use Rattle.entries.specs.declared.refusal.TextRefusal.{TextRefusal}
 use Rattle.entries.specs.declared.refusal.TextRefusal.TheVariants.{TooLong}
 use Rattle.entries.specs.Lines.{words}
 use Rattle.entries.specs.Headers.{header_reading}
-use Rattle.entries.specs.Parts.{Content, header_part, row_part, gap_part, header_answer, ending_answer, rows_due, next_part, content, handed, due_after, header_due}
+use Rattle.entries.specs.Parts.{Content, header_part, gap_part, header_answer, next_part, content, handed, due_after, header_due}
 use Rattle.entries.specs.Entries.{end_fault, rows_fault, unless, entry_after, next_entry}
 use Rattle.entries.specs.Readers.{text_of, left, part_answer, answer_between, After}
 

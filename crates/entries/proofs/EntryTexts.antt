@@ -1,5 +1,5 @@
 -- The text that the format writes for a lawful entry reads back as that entry.
-use Rattle.std.proofs.Common.{◌≡◌, ℕ, ◌+◌, ◌*◌, ◌≤◌, List, [], ◌∷◌, ◌++◌, map, length, sum_by, sym, refl, ap, ◌∙◌, inl, append-nil, mul-le-mul_right, arith}
+use Rattle.std.proofs.Common.{◌≡◌, ℕ, ◌+◌, ◌≤◌, List, [], ◌∷◌, ◌++◌, map, length, sum_by, sym, refl, ap, ◌∙◌, inl, append-nil, arith}
 use Rattle.std.specs.List.{AllByRecursion as All}
 use Rattle.std.proofs.lemmas.List.{length-append, length-map}
 use Rattle.std.proofs.lemmas.List.Sums.{sum_by-cons}
@@ -7,7 +7,7 @@ use Rattle.std.proofs.ByRecursion.{sum_by_le}
 use Rattle.entries.specs.Lines.{lines}
 use Rattle.entries.specs.Entries.{next_entry}
 use Rattle.entries.specs.Symbols.{symbol_of}
-use Rattle.entries.specs.Written.{WrittenEntry, Lawful, header_line, row_line, entry_lines, entry_in, text_of_lines, TextsReadBack}
+use Rattle.entries.specs.Written.{header_line, row_line, entry_lines, entry_in, text_of_lines, TextsReadBack}
 use Rattle.entries.proofs.Pieces.{Free}
 use Rattle.entries.proofs.Clear.{above-free, above-row}
 use Rattle.entries.proofs.LineWords.{lines_of_text}

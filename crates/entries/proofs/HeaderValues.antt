@@ -1,9 +1,9 @@
 -- What is known of a header that was read.
-use Rattle.std.proofs.Common.{◌≡◌, ℕ, ◌*◌, ◌≤◌, Bool, true, false, cond, ◌&&◌, leb, List, [], ◌∷◌, get_or, Some, None, Ok, Err, Option, Result, sym, refl, ap, ◌∙◌, ⊎_elim, arith}
+use Rattle.std.proofs.Common.{◌≡◌, ℕ, ◌*◌, ◌≤◌, true, cond, leb, List, [], get_or, Some, None, Ok, Err, Option, Result, sym, refl, ap, ◌∙◌, ⊎_elim, arith}
 use Rattle.std.proofs.lemmas.Bool.{and_parts, leb-true, cases_Bool, cond-true, cond-false}
 use Rattle.entries.specs.declared.header.Header.{Header}
 use Rattle.entries.specs.declared.refusal.TextRefusal.{TextRefusal}
-use Rattle.entries.specs.declared.refusal.TextRefusal.TheVariants.{HeaderShape, OutsideLimits}
+use Rattle.entries.specs.declared.refusal.TextRefusal.TheVariants.{HeaderShape}
 use Rattle.entries.specs.Lines.{words}
 use Rattle.entries.specs.Names.{top, field_named, weight_named}
 use Rattle.entries.specs.Numbers.{number_of}

@@ -1,8 +1,8 @@
 -- A line is its words joined again by single spaces, and a text its lines each with a break.
-use Rattle.std.proofs.Common.{◌≡◌, ℕ, zero, suc, ◌+◌, ◌-◌, ◌<◌, ◌≤◌, Bool, true, false, cond, eqb, ◌⊎◌, List, [], ◌∷◌, ◌++◌, length, get_or, take, drop, sum_by, sym, refl, ap, ◌∙◌, inl, inr, ⊎_elim, append-nil, suc-le-suc, zero-le, not-suc-le-zero, arith}
-use Rattle.std.specs.List.{join_with_byte, flat_map, AllByRecursion as All}
-use Rattle.std.proofs.lemmas.List.{append_assoc, take_at, drop_at}
-use Rattle.std.proofs.lemmas.Bool.{cases_Bool, eqb-true, eqb-false, cond-true, cond-false}
+use Rattle.std.proofs.Common.{◌≡◌, ℕ, eqb, List, [], ◌∷◌, sym, refl, ap, ◌∙◌, inl, inr, ⊎_elim}
+use Rattle.std.specs.List.{join_with_byte, AllByRecursion as All}
+use Rattle.std.proofs.lemmas.List.{append_assoc}
+use Rattle.std.proofs.lemmas.Bool.{cases_Bool, eqb-true, cond-true, cond-false}
 use Rattle.entries.specs.Lines.{onto, cut, lines, words}
 use Rattle.entries.specs.Written.{text_of_lines, Lined}
 use Rattle.entries.proofs.Pieces.{Free, cut-first, words_last}

@@ -1,5 +1,5 @@
 -- Which part comes next, case by case.
-use Rattle.std.proofs.Common.{◌≡◌, ℕ, ◌<◌, true, false, cond, List, [], ◌∷◌, length, Some, None, Ok, Err, Option, Result, sym, refl, ap, ◌∙◌, not-suc-le-zero, arith}
+use Rattle.std.proofs.Common.{◌≡◌, ℕ, ◌<◌, true, false, List, [], ◌∷◌, length, Some, None, Ok, Err, Option, Result, sym, refl, ap, ◌∙◌, not-suc-le-zero, arith}
 use Rattle.entries.specs.declared.header.Header.{Header}
 use Rattle.entries.specs.declared.part.Due.{Due}
 use Rattle.entries.specs.declared.refusal.TextRefusal.{TextRefusal}
@@ -7,7 +7,7 @@ use Rattle.entries.specs.declared.refusal.TextRefusal.TheVariants.{HeaderShape, 
 use Rattle.entries.specs.Lines.{words}
 use Rattle.entries.specs.Headers.{header_shaped, values_of, header_reading}
 use Rattle.entries.specs.Rows.{row_fault}
-use Rattle.entries.specs.Parts.{Content, header_part, row_part, gap_part, header_answer, row_answer, next_part}
+use Rattle.entries.specs.Parts.{gap_part, header_answer, row_answer, next_part}
 
 pub header-none : (ls : List (List ℕ)) (i : ℕ) → ls ≡ [] → Ok None ≡ next_part Due.Header ls i
 unfolding next_part

@@ -4,17 +4,16 @@ use Rattle.std.specs.List.{join_with_byte}
 use Rattle.std.proofs.lemmas.List.{take_at, take_all, drop_at, drop-drop, get_or-drop, length-drop}
 use Rattle.std.proofs.lemmas.List.Sums.{sum_by-cons}
 use Rattle.entries.specs.declared.header.Header.{Header}
-use Rattle.entries.specs.declared.header.HeaderWords.{HeaderWords}
 use Rattle.entries.specs.declared.part.Due.{Due}
 use Rattle.entries.specs.declared.part.Part.{Part}
 use Rattle.entries.specs.declared.reader.PartReader.{PartReader}
 use Rattle.entries.specs.declared.refusal.TextRefusal.{TextRefusal}
 use Rattle.entries.specs.Lines.{lines, words}
 use Rattle.entries.specs.Headers.{word_column, header_reading}
-use Rattle.entries.specs.HeaderWords.{word_list, Columned}
+use Rattle.entries.specs.HeaderWords.{word_list}
 use Rattle.entries.specs.Rows.{row_fault}
 use Rattle.entries.specs.Parts.{Content, header_part, row_part, gap_part, header_answer, row_answer, ending_answer, content, handed, next_part}
-use Rattle.entries.specs.Readers.{text_of, left, StandsAt, Stands, Placed, Numbered}
+use Rattle.entries.specs.Readers.{text_of, left, StandsAt, Placed, Numbered}
 use Rattle.entries.proofs.LineWords.{line_of-words}
 
 -- a word of joined words stands where its column says

@@ -1,11 +1,11 @@
 -- A row's line and its codes determine each other.
-use Rattle.std.proofs.Common.{◌≡◌, ℕ, zero, suc, ◌+◌, ◌-◌, ◌<◌, ◌≤◌, Bool, true, false, cond, ◌&&◌, eqb, ltb, leb, ◌⊎◌, List, [], ◌∷◌, ◌++◌, map, length, take, drop, Some, None, Option, unwrap_or, sym, refl, ap, ◌∙◌, inl, inr, ⊎_elim, suc-le-suc, zero-le, arith}
+use Rattle.std.proofs.Common.{◌≡◌, ℕ, zero, suc, ◌+◌, ◌-◌, ◌<◌, ◌≤◌, true, false, cond, ◌&&◌, eqb, ltb, leb, List, [], ◌∷◌, ◌++◌, map, length, take, drop, Some, None, Option, unwrap_or, sym, refl, ap, ◌∙◌, inl, inr, ⊎_elim, suc-le-suc, zero-le, arith}
 use Rattle.std.specs.List.{AllByRecursion as All}
 use Rattle.std.proofs.lemmas.List.{length-map}
-use Rattle.std.proofs.lemmas.Bool.{cases_Bool, cases_lt, and_parts, and_from, and_left, and_right, leb-true, le-leb, lt-leb, ltb-true, lt-ltb, le-ltb, eqb-true, eq-eqb, cond-true, cond-false}
+use Rattle.std.proofs.lemmas.Bool.{cases_Bool, cases_lt, and_parts, and_from, and_right, leb-true, le-leb, lt-leb, ltb-true, lt-ltb, le-ltb, eq-eqb, cond-true, cond-false}
 use Rattle.entries.specs.declared.header.Header.{Header}
 use Rattle.entries.specs.declared.refusal.TextRefusal.{TextRefusal}
-use Rattle.entries.specs.declared.refusal.TextRefusal.TheVariants.{BadSymbol, RowLength, NoEntryEnd, MissingRow}
+use Rattle.entries.specs.declared.refusal.TextRefusal.TheVariants.{BadSymbol}
 use Rattle.entries.specs.Names.{order}
 use Rattle.entries.specs.Symbols.{code_of, symbol_of}
 use Rattle.entries.specs.Rows.{is_element, symbol_fault, row_fault, row_codes}

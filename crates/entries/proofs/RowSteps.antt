@@ -1,5 +1,5 @@
 -- What a row that is due brings: a row and what the rows after it bring, or the first fault of them all.
-use Rattle.std.proofs.Common.{◌≡◌, ℕ, zero, suc, ◌+◌, ◌<◌, ◌≤◌, true, false, cond, eqb, leb, List, [], ◌∷◌, length, get_or, drop, Some, None, Ok, Err, Option, Result, sym, refl, ap, ◌∙◌, subst, ⊎_elim, suc-le-suc, zero-le, add-one, arith, Bor}
+use Rattle.std.proofs.Common.{◌≡◌, ℕ, ◌+◌, ◌<◌, ◌≤◌, eqb, leb, List, [], ◌∷◌, length, get_or, drop, Some, None, Ok, Err, Option, sym, refl, ap, ◌∙◌, subst, ⊎_elim, suc-le-suc, zero-le, add-one, arith, Bor}
 use Rattle.std.proofs.lemmas.Bool.{le-leb, eqb-true, cases_Bool, cond-true, cond-false}
 use Rattle.entries.specs.declared.header.Header.{Header}
 use Rattle.entries.specs.declared.part.Due.{Due}
@@ -8,9 +8,9 @@ use Rattle.entries.specs.declared.reader.PartReader.{PartReader}
 use Rattle.entries.specs.declared.refusal.TextRefusal.{TextRefusal}
 use Rattle.entries.specs.declared.refusal.TextRefusal.TheVariants.{RowLength}
 use Rattle.entries.specs.Rows.{row_fault}
-use Rattle.entries.specs.Parts.{Content, header_part, row_part, gap_part, row_answer, rows_due, next_part, content, handed, due_after}
+use Rattle.entries.specs.Parts.{Content, row_part, row_answer, rows_due, next_part, content, handed, due_after}
 use Rattle.entries.specs.Readers.{text_of, left, part_answer, After}
-use Rattle.entries.specs.Entries.{first_fault, rows_fault}
+use Rattle.entries.specs.Entries.{rows_fault}
 
 -- what a reader answers where a row is due
 pub row_due_answer : (r : PartReader) (h : Header) (m : ℕ) → length (text_of r) ≤ 60000 → r.due ≡ rows_due h (m + 1) → part_answer r ≡ next_part (Due.Row h m) (left r) (r.passed + 1)

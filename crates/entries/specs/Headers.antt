@@ -5,7 +5,7 @@ use Rattle.entries.specs.declared.header.Header.{Header}
 use Rattle.entries.specs.declared.refusal.TextRefusal.{TextRefusal}
 use Rattle.entries.specs.declared.refusal.TextRefusal.TheVariants.{HeaderShape, BadNumber, UnknownField, UnknownWeight, OutsideLimits}
 use Rattle.entries.specs.Lines.{words}
-use Rattle.entries.specs.Names.{order, top, field_named, weight_named}
+use Rattle.entries.specs.Names.{top, field_named, weight_named}
 use Rattle.entries.specs.Numbers.{number_of}
 
 -- None of the words is empty.

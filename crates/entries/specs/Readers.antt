@@ -6,7 +6,6 @@ use Rattle.entries.specs.declared.part.Due.{Due}
 use Rattle.entries.specs.declared.reader.PartReader.{PartReader}
 use Rattle.entries.specs.declared.refusal.TextRefusal.{TextRefusal}
 use Rattle.entries.specs.declared.refusal.TextRefusal.TheVariants.{TooLong}
-use Rattle.entries.specs.declared.words.Word.{Word}
 use Rattle.entries.specs.Lines.{lines}
 use Rattle.entries.specs.HeaderWords.{Columned}
 use Rattle.entries.specs.Parts.{Content, next_part, due_after}

@@ -1,5 +1,5 @@
 -- What is left of the word gives its value from what is read so far.
-use Rattle.std.proofs.Common.{◌≡◌, ◌^◌, ◌<◌, true, take, drop}
+use Rattle.std.proofs.Common.{◌≡◌, ◌^◌, ◌<◌, drop}
 use Rattle.std.specs.Str.{all_ascii_digits}
 use Rattle.entries.specs.Numbers.{digits_value}
 use Rattle.entries.proofs.numbers.number.Given as goal

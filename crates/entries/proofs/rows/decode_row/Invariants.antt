@@ -1,5 +1,5 @@
 -- The codes up to this place are those of the symbols.
-use Rattle.std.proofs.Common.{◌≡◌, length, take}
+use Rattle.std.proofs.Common.{◌≡◌, take}
 use Rattle.entries.specs.Rows.{row_codes}
 use Rattle.entries.proofs.rows.decode_row.Given as goal
 

@@ -1,8 +1,7 @@
 -- Symbol by symbol, what is left of the row has its first fault.
-use Rattle.std.proofs.Common.{◌≡◌, ◌+◌, Bool, true, false, cond, length, get_or, drop, Some, None, Option, sym, ap, ◌∙◌}
+use Rattle.std.proofs.Common.{◌≡◌, ◌+◌, cond, get_or, drop, Some, None, sym, ◌∙◌}
 use Rattle.std.proofs.lemmas.List.{at_drop_more, at_drop_all}
 use Rattle.std.proofs.lemmas.Bool.{cond-true, cond-false}
-use Rattle.entries.specs.declared.refusal.TextRefusal.{TextRefusal}
 use Rattle.entries.specs.declared.refusal.TextRefusal.TheVariants.{BadSymbol}
 use Rattle.entries.specs.Rows.{is_element, symbol_fault}
 use Rattle.entries.proofs.rows.symbol_fault.Goals as goal

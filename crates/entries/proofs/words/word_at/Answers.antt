@@ -1,7 +1,5 @@
 -- The word ends where the next byte between words stands, or with the line.
-use Rattle.std.proofs.Common.{◌≡◌, ℕ, ◌+◌, ◌-◌, ◌<◌, ◌≤◌, List, [], ◌∷◌, length, take, drop, sym, refl, ap, ◌∙◌, ⊎_elim, arith, length-drop, length-take}
-use Rattle.entries.specs.Lines.{words}
-use Rattle.entries.specs.WordParts.{words_from}
+use Rattle.std.proofs.Common.{◌≡◌, ◌-◌, length, take, drop, refl, arith, length-drop, length-take}
 use Rattle.entries.proofs.Pieces.{word_then}
 use Rattle.entries.proofs.words.word_at.Goals as goal
 

@@ -1,10 +1,10 @@
 -- The header, the rows and the end of an entry together.
-use Rattle.std.proofs.Common.{◌≡◌, ℕ, ◌+◌, ◌*◌, ◌≤◌, List, [], ◌++◌, length, get_or, take, drop, Ok, Option, sym, refl, ap, ◌∙◌, subst, arith}
+use Rattle.std.proofs.Common.{ℕ, ◌+◌, ◌*◌, ◌≤◌, List, [], length, get_or, take, drop, Ok, Option, sym, refl, ap, ◌∙◌, subst, arith}
 use Rattle.std.proofs.lemmas.Result.{err_from_is_err_and}
 use Rattle.entries.specs.declared.header.Header.{Header}
 use Rattle.std.specs.List.{flat_map}
 use Rattle.entries.specs.Rows.{row_codes}
-use Rattle.entries.specs.Readers.{text_of, left}
+use Rattle.entries.specs.Readers.{left}
 use Rattle.entries.specs.HeaderReads.{HeaderRead, HeaderPassed}
 use Rattle.entries.proofs.HeaderValues.{header-limits}
 use Rattle.entries.proofs.Matrices.{size-within, copied_front, joined-codes}

@@ -1,5 +1,5 @@
 -- At the start no entry is read, and the lines are the text's.
-use Rattle.std.proofs.Common.{◌≡◌, ℕ, List, take, sym, refl, ap, ◌∙◌, subst, inl}
+use Rattle.std.proofs.Common.{ℕ, take, sym, ap, subst, inl}
 use Rattle.entries.specs.Lines.{lines}
 use Rattle.entries.specs.Written.{Lined}
 use Rattle.entries.proofs.LineWords.{lined}

@@ -1,5 +1,5 @@
 -- The header, the end of the text, or the first fault.
-use Rattle.std.proofs.Common.{◌≡◌, List, [], get_or, Some, Ok, Option, sym, ap, ◌∙◌, subst}
+use Rattle.std.proofs.Common.{◌≡◌, [], get_or, Some, Ok, Option, sym, ap, ◌∙◌, subst}
 use Rattle.std.proofs.lemmas.Result.{err_from_is_err_and}
 use Rattle.entries.specs.declared.part.Part.{Part}
 use Rattle.entries.specs.Lines.{words}

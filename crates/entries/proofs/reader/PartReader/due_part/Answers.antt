@@ -1,5 +1,5 @@
 -- Each part that is due, at its place.
-use Rattle.std.proofs.Common.{◌≡◌, ◌+◌, sym, ap, ◌∙◌}
+use Rattle.std.proofs.Common.{◌+◌, sym, ap, ◌∙◌}
 use Rattle.entries.specs.declared.part.Due.{Due}
 use Rattle.entries.specs.Parts.{next_part}
 use Rattle.entries.specs.Readers.{left}

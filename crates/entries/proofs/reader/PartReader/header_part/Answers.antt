@@ -1,5 +1,5 @@
 -- The header's faults in their order, and the header.
-use Rattle.std.proofs.Common.{◌≡◌, sym, rules}
+use Rattle.std.proofs.Common.{rules}
 use Rattle.std.proofs.lemmas.Result.{err_from_is_err_and}
 use Rattle.entries.specs.HeaderWords.{word_list}
 use Rattle.entries.proofs.NextParts.{header-none, header_unshaped, header_read}

@@ -1,5 +1,5 @@
 -- A line ends with the next break, or with the text.
-use Rattle.std.proofs.Common.{◌≡◌, ℕ, ◌+◌, ◌-◌, ◌<◌, ◌≤◌, List, [], ◌∷◌, length, take, drop, sym, ap, ◌∙◌, arith}
+use Rattle.std.proofs.Common.{ℕ, ◌-◌, [], ◌∷◌, take, drop, sym, ap, ◌∙◌, arith}
 use Rattle.entries.specs.Lines.{lines}
 use Rattle.entries.proofs.Pieces.{cut-from, line-last, lines_none}
 use Rattle.entries.proofs.reader.PartReader.next_line.Goals as goal

@@ -1,5 +1,5 @@
 -- Past a line, one line more is passed.
-use Rattle.std.proofs.Common.{◌≡◌, ℕ, List, drop, sym, ap, ◌∙◌, arith}
+use Rattle.std.proofs.Common.{ℕ, List, drop, sym, ap, ◌∙◌, arith}
 use Rattle.std.proofs.lemmas.List.{drop-drop}
 use Rattle.entries.specs.Lines.{lines}
 use Rattle.entries.proofs.reader.PartReader.pass.Goals as goal
