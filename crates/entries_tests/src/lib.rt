@@ -1,4 +1,6 @@
 // Tests of the entry reader: texts with a fault, texts at the edges of the format, and the parts handed out.
+#![tactic(auto)]
+
 #[cfg(test)]
 mod edges;
 #[cfg(test)]

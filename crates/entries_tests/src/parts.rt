@@ -21,7 +21,7 @@ fn in_order(rt: HostRuntime) -> Result<(), Fail> {
             line,
         } => {
             assert!(rt; line == 1 && values.n == 3 && values.k == 1);
-            assert!(rt; words.field.bytes == b"GF(2)" && words.field.column == 12);
+            assert!(rt; words.field.bytes == b"GF(2)".as_slice() && words.field.column == 12);
         }
         _ => return Err(Fail::new("no header")),
     }
@@ -30,7 +30,7 @@ fn in_order(rt: HostRuntime) -> Result<(), Fail> {
             symbols,
             line,
             column,
-        } => assert!(rt; line == 2 && column == 1 && symbols == b"110"),
+        } => assert!(rt; line == 2 && column == 1 && symbols == b"110".as_slice()),
         _ => return Err(Fail::new("no row")),
     }
     match part(&mut reader)? {
