@@ -1,6 +1,6 @@
 -- Words hold no space, and lines no break: their bytes are above those.
 use Rattle.std.proofs.Common.{◌≡◌, ℕ, zero, suc, ◌+◌, ◌<◌, Bool, true, ◌&&◌, ltb, leb, List, [], ◌∷◌, codes, decimal, refl, ⊎_elim, le_of_suc-le-suc, not-suc-le-zero, arith}
-use Rattle.std.specs.List.{join_with_byte, AllByRecursion as All}
+use Rattle.std.specs.List.{join_with_byte, AllByRecursion}
 use Rattle.std.specs.Char.{is_ascii_digit}
 use Rattle.std.specs.Str.{all_ascii_digits}
 use Rattle.std.proofs.ByRecursion.{All-append, All-weaker}
@@ -16,7 +16,7 @@ use Rattle.entries.proofs.Pieces.{Free}
 
 -- every byte is above m
 abbrev pub Above : ℕ → List ℕ → Type 0
-Above m s = All (λ b. m < b) s
+Above m s = AllByRecursion (λ b. m < b) s
 
 pub above-free : (m : ℕ) (s : List ℕ) → Above m s → Free m s
 above-free m [] all i h e = not-suc-le-zero h
@@ -59,7 +59,7 @@ pub above-decimal : (v : ℕ) → v < 1000 → Above 32 (decimal v)
 above-decimal v few = digits_above (decimal v) (decimal_digits v few)
 
 -- joining by a byte above m keeps all above m
-pub above_rejoined : (m c : ℕ) (ws : List (List ℕ)) → m < c → All (Above m) ws → Above m (join_with_byte c ws)
+pub above_rejoined : (m c : ℕ) (ws : List (List ℕ)) → m < c → AllByRecursion (Above m) ws → Above m (join_with_byte c ws)
 above_rejoined m c [] h all = tt
 above_rejoined m c (w ∷ []) h all = all.0
 above_rejoined m c (w ∷ v ∷ ws) h all = All-append (λ b. m < b) w (c ∷ join_with_byte c (v ∷ ws)) all.0 (h, above_rejoined m c (v ∷ ws) h all.1)

@@ -1,6 +1,6 @@
 -- The text that the format writes for a lawful entry reads back as that entry.
 use Rattle.std.proofs.Common.{◌≡◌, ℕ, ◌+◌, ◌≤◌, List, [], ◌∷◌, ◌++◌, map, length, sum_by, sym, refl, ap, ◌∙◌, inl, append-nil, arith}
-use Rattle.std.specs.List.{AllByRecursion as All}
+use Rattle.std.specs.List.{AllByRecursion}
 use Rattle.std.proofs.lemmas.List.{length-append, length-map}
 use Rattle.std.proofs.lemmas.List.Sums.{sum_by-cons}
 use Rattle.std.proofs.ByRecursion.{sum_by_le}
@@ -14,11 +14,11 @@ use Rattle.entries.proofs.LineWords.{lines_of_text}
 use Rattle.entries.proofs.HeaderValues.{limits_of}
 use Rattle.entries.proofs.EntryLines.{header_clear, header-short, written-reads}
 
-rows_clear : (rows : List (List ℕ)) → All (Free 10) (map row_line rows)
+rows_clear : (rows : List (List ℕ)) → AllByRecursion (Free 10) (map row_line rows)
 rows_clear [] = tt
 rows_clear (row ∷ rows) = (above-free 10 (row_line row) (above-row row), rows_clear rows)
 
-rows_short : (n : ℕ) (rows : List (List ℕ)) → n ≤ 64 → All (λ row. length row ≡ n) rows → All (λ l. length l + 1 ≤ 65) (map row_line rows)
+rows_short : (n : ℕ) (rows : List (List ℕ)) → n ≤ 64 → AllByRecursion (λ row. length row ≡ n) rows → AllByRecursion (λ l. length l + 1 ≤ 65) (map row_line rows)
 rows_short n [] few all = tt
 rows_short n (row ∷ rows) few all = (omega (arith, length-map row symbol_of, all.0), rows_short n rows few all.1)
 
@@ -30,11 +30,11 @@ pub written_text : TextsReadBack
 written_text e lawful =
     let h = e.header in
     let limits = limits_of h lawful.limits in
-    let clear : All (Free 10) (entry_lines e) = (above-free 10 (header_line h) (header_clear h lawful.claims lawful.limits lawful.weight), rows_clear e.rows) in
+    let clear : AllByRecursion (Free 10) (entry_lines e) = (above-free 10 (header_line h) (header_clear h lawful.claims lawful.limits lawful.weight), rows_clear e.rows) in
     let cut : lines (text_of_lines (entry_lines e)) ≡ entry_lines e = lines_of_text (entry_lines e) clear in
     let whole : lines (text_of_lines (entry_lines e)) ≡ entry_lines e ++ [] = cut ∙ sym (append-nil (entry_lines e)) in
     let reads = written-reads e [] 1 lawful (inl refl) in
-    let short : All (λ l. length l + 1 ≤ 65) (entry_lines e) = (omega (arith, header-short h lawful.claims lawful.limits lawful.weight), rows_short h.n e.rows limits.short lawful.lengths) in
+    let short : AllByRecursion (λ l. length l + 1 ≤ 65) (entry_lines e) = (omega (arith, header-short h lawful.claims lawful.limits lawful.weight), rows_short h.n e.rows limits.short lawful.lengths) in
     record {
       cut = cut;
       reads = ap (λ (ls : List (List ℕ)). next_entry ls 1) whole ∙ reads.0;

@@ -1,6 +1,6 @@
 -- A line is its words joined again by single spaces, and a text its lines each with a break.
 use Rattle.std.proofs.Common.{◌≡◌, ℕ, eqb, List, [], ◌∷◌, sym, refl, ap, ◌∙◌, inl, inr, ⊎_elim}
-use Rattle.std.specs.List.{join_with_byte, AllByRecursion as All}
+use Rattle.std.specs.List.{join_with_byte, AllByRecursion}
 use Rattle.std.proofs.lemmas.List.{append_assoc}
 use Rattle.std.proofs.lemmas.Bool.{cases_Bool, eqb-true, cond-true, cond-false}
 use Rattle.entries.specs.Lines.{onto, cut, lines, words}
@@ -37,12 +37,12 @@ line_of-words (b ∷ s) =
     (cases_Bool (eqb b 32))
 
 -- words without spaces, joined, are the words of the line
-pub words-of-line : (w : List ℕ) (ws : List (List ℕ)) → Free 32 w → All (Free 32) ws → words (join_with_byte 32 (w ∷ ws)) ≡ w ∷ ws
+pub words-of-line : (w : List ℕ) (ws : List (List ℕ)) → Free 32 w → AllByRecursion (Free 32) ws → words (join_with_byte 32 (w ∷ ws)) ≡ w ∷ ws
 words-of-line w [] free all = words_last w free
 words-of-line w (v ∷ ws) free all = cut-first 32 ([] ∷ []) w (join_with_byte 32 (v ∷ ws)) free ∙ ap (λ (us : List (List ℕ)). w ∷ us) (words-of-line v ws all.0 all.1)
 
 -- lines without breaks, each with a break, are the lines of the text
-pub lines_of_text : (ls : List (List ℕ)) → All (Free 10) ls → lines (text_of_lines ls) ≡ ls
+pub lines_of_text : (ls : List (List ℕ)) → AllByRecursion (Free 10) ls → lines (text_of_lines ls) ≡ ls
 unfolding cut
 lines_of_text [] all = refl
 lines_of_text (l ∷ ls) all = ap lines (append_assoc l (10 ∷ []) (text_of_lines ls)) ∙ cut-first 10 [] l (text_of_lines ls) all.0 ∙ ap (λ (us : List (List ℕ)). l ∷ us) (lines_of_text ls all.1)

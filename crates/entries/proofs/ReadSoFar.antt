@@ -1,6 +1,6 @@
 -- The entries handed out are the lines read so far.
 use Rattle.std.proofs.Common.{◌≡◌, ℕ, zero, suc, ◌+◌, ◌≤◌, min, leb, List, [], ◌∷◌, ◌++◌, length, take, drop, Some, None, Ok, Err, Option, Result, sym, ap, ◌∙◌, subst, inl, inr, ⊎_elim, zero-le, suc-add, zero-add, arith}
-use Rattle.std.specs.List.{AllByRecursion as All}
+use Rattle.std.specs.List.{AllByRecursion}
 use Rattle.std.proofs.lemmas.List.{append_assoc, append-nil, flat_map_more, take_all, drop-drop}
 use Rattle.std.proofs.lemmas.Bool.{cases_lt, cases_Bool, cond-true, cond-false, le-leb}
 use Rattle.entries.specs.declared.entry_reader.EntryReader.{EntryReader}
@@ -79,7 +79,7 @@ some_decided r h e =
     (cases_Bool (leb (length (text_in r)) 60000))
 
 -- what is handed out is lawful
-pub answer-lawful : (r : EntryReader) (a : Result (Option Header) TextRefusal) → a ≡ entry_answer r → All Lawful (entries_of a (lines_left r))
+pub answer-lawful : (r : EntryReader) (a : Result (Option Header) TextRefusal) → a ≡ entry_answer r → AllByRecursion Lawful (entries_of a (lines_left r))
 answer-lawful r (Ok (Some h)) e = ((entry_stands (lines_left r) (lines_read r + 1) h (some_decided r h e)).lawful, tt)
 answer-lawful r (Ok None) e = tt
 answer-lawful r (Err f) e = tt

@@ -1,6 +1,6 @@
 -- A row's line and its codes determine each other.
 use Rattle.std.proofs.Common.{◌≡◌, ℕ, zero, suc, ◌+◌, ◌-◌, ◌<◌, ◌≤◌, true, false, cond, ◌&&◌, eqb, ltb, leb, List, [], ◌∷◌, ◌++◌, map, length, take, drop, Some, None, Option, unwrap_or, sym, refl, ap, ◌∙◌, inl, inr, ⊎_elim, suc-le-suc, zero-le, arith}
-use Rattle.std.specs.List.{AllByRecursion as All}
+use Rattle.std.specs.List.{AllByRecursion}
 use Rattle.std.proofs.lemmas.List.{length-map}
 use Rattle.std.proofs.lemmas.Bool.{cases_Bool, cases_lt, and_parts, and_from, and_right, leb-true, le-leb, lt-leb, ltb-true, lt-ltb, le-ltb, eq-eqb, cond-true, cond-false}
 use Rattle.entries.specs.declared.header.Header.{Header}
@@ -56,7 +56,7 @@ element_code q b (Some a) at e =
     (ltb-true a q in_field, code_symbol b a at)
 
 -- symbols without a fault
-symbols_good : (q i c : ℕ) (l : List ℕ) → symbol_fault q i c l ≡ None → (row_line (row_codes l) ≡ l) × All (λ a. a < q) (row_codes l)
+symbols_good : (q i c : ℕ) (l : List ℕ) → symbol_fault q i c l ≡ None → (row_line (row_codes l) ≡ l) × AllByRecursion (λ a. a < q) (row_codes l)
 symbols_good q i c [] e = (refl, tt)
 symbols_good q i c (b ∷ l) e =
     ⊎_elim
@@ -67,7 +67,7 @@ symbols_good q i c (b ∷ l) e =
     (cases_Bool (is_element q b))
 
 -- a row without a fault
-pub row_good : (h : Header) (l : List ℕ) (i : ℕ) → row_fault h l i ≡ None → (length (row_codes l) ≡ h.n) × (row_line (row_codes l) ≡ l) × All (λ a. a < order h.field) (row_codes l)
+pub row_good : (h : Header) (l : List ℕ) (i : ℕ) → row_fault h l i ≡ None → (length (row_codes l) ≡ h.n) × (row_line (row_codes l) ≡ l) × AllByRecursion (λ a. a < order h.field) (row_codes l)
 unfolding row_fault
 row_good h l i e =
     let long = row-length h l i e in
@@ -75,7 +75,7 @@ row_good h l i e =
     (length-map l (λ b. unwrap_or (code_of b) 0) ∙ long, symbols.0, symbols.1)
 
 -- the symbols of elements are without a fault
-symbols_written : (q i c : ℕ) (row : List ℕ) → q ≤ 13 → All (λ a. a < q) row → (symbol_fault q i c (row_line row) ≡ None) × (row_codes (row_line row) ≡ row)
+symbols_written : (q i c : ℕ) (row : List ℕ) → q ≤ 13 → AllByRecursion (λ a. a < q) row → (symbol_fault q i c (row_line row) ≡ None) × (row_codes (row_line row) ≡ row)
 symbols_written q i c [] most all = (refl, refl)
 symbols_written q i c (a ∷ row) most all =
     let below : a < q = all.0 in
@@ -84,7 +84,7 @@ symbols_written q i c (a ∷ row) most all =
     let more = symbols_written q i (c + 1) row most all.1 in
     (cond-true (is_element q (symbol_of a)) _ _ element ∙ more.0, ap (λ (x : ℕ). x ∷ row_codes (row_line row)) (ap (λ (o : Option ℕ). unwrap_or o 0) code) ∙ ap (λ (u : List ℕ). a ∷ u) more.1)
 
-pub row_written : (h : Header) (row : List ℕ) (i : ℕ) → length row ≡ h.n → All (λ a. a < order h.field) row → (row_fault h (row_line row) i ≡ None) × (row_codes (row_line row) ≡ row)
+pub row_written : (h : Header) (row : List ℕ) (i : ℕ) → length row ≡ h.n → AllByRecursion (λ a. a < order h.field) row → (row_fault h (row_line row) i ≡ None) × (row_codes (row_line row) ≡ row)
 unfolding row_fault
 row_written h row i long all =
     let symbols = symbols_written (order h.field) i 1 row (order_most h.field) all in
@@ -102,8 +102,8 @@ ends_well ls i e = ⊎_elim (λ none. ap (λ (t : List (List ℕ)). end_fault t 
 pub record RowsGood (h : Header) (m : ℕ) (ls : List (List ℕ)) : Type 0 where
   pub enough : m ≤ length ls
   pub lines : map row_line (map row_codes (take m ls)) ≡ take m ls
-  pub lengths : All (λ row. length row ≡ h.n) (map row_codes (take m ls))
-  pub codes : All (All (λ a. a < order h.field)) (map row_codes (take m ls))
+  pub lengths : AllByRecursion (λ row. length row ≡ h.n) (map row_codes (take m ls))
+  pub codes : AllByRecursion (AllByRecursion (λ a. a < order h.field)) (map row_codes (take m ls))
   pub end : Ends (drop m ls)
 
 rows_good_on : (h : Header) (m : ℕ) (l : List ℕ) (ls : List (List ℕ)) (i : ℕ) → row_fault h l i ≡ None → RowsGood h m ls → RowsGood h (suc m) (l ∷ ls)
@@ -130,7 +130,7 @@ rows_good h (suc m) (l ∷ ls) i e =
     rows_good_on h m l ls i parts.0 (rows_good h m ls (i + 1) parts.1)
 
 -- the lines of lawful rows are without a fault, and give the rows back
-pub rows_written : (h : Header) (rows : List (List ℕ)) (rest : List (List ℕ)) (i : ℕ) → All (λ row. length row ≡ h.n) rows → All (All (λ a. a < order h.field)) rows → Ends rest → (rows_fault h (length rows) (map row_line rows ++ rest) i ≡ None) × (map row_codes (take (length rows) (map row_line rows ++ rest)) ≡ rows)
+pub rows_written : (h : Header) (rows : List (List ℕ)) (rest : List (List ℕ)) (i : ℕ) → AllByRecursion (λ row. length row ≡ h.n) rows → AllByRecursion (AllByRecursion (λ a. a < order h.field)) rows → Ends rest → (rows_fault h (length rows) (map row_line rows ++ rest) i ≡ None) × (map row_codes (take (length rows) (map row_line rows ++ rest)) ≡ rows)
 unfolding rows_fault
 rows_written h [] rest i lengths codes end = (ends_well rest i end, refl)
 rows_written h (row ∷ rows) rest i lengths codes end =

@@ -1,6 +1,6 @@
 -- What a reader of entries answers, and where it then stands.
 use Rattle.std.specs.Prelude.{◌≡◌, ℕ, ◌+◌, ◌*◌, ◌≤◌, min, ◌⊎◌, List, [], ◌∷◌, ◌++◌, length, take, drop, Some, None, Ok, Err, Option, Result}
-use Rattle.std.specs.List.{AllByRecursion as All}
+use Rattle.std.specs.List.{AllByRecursion}
 use Rattle.entries.specs.declared.entry_reader.EntryReader.{EntryReader}
 use Rattle.entries.specs.declared.header.Header.{Header}
 use Rattle.entries.specs.declared.refusal.TextRefusal.{TextRefusal}
@@ -51,7 +51,7 @@ ReadAs r es =
 -- What handing out an entry means.
 pub record HandsOut (r : EntryReader) (a : Result (Option Header) TextRefusal) (s : EntryReader) : Type 0 where
   -- what is handed out is lawful
-  pub lawful : All Lawful (entries_of a (lines_left r))
+  pub lawful : AllByRecursion Lawful (entries_of a (lines_left r))
   -- the entries handed out, with the one handed out now, are the lines read so far: nothing is skipped, invented or read twice
   pub joined : (es : List WrittenEntry) → ReadAs r es → ReadAs s (es ++ entries_of a (lines_left r))
   -- a lawful entry that stands next as the format writes it is handed out as it is

@@ -1,6 +1,6 @@
 -- Entries as the format writes them.
 use Rattle.std.specs.Prelude.{◌≡◌, ℕ, ◌<◌, ◌≤◌, true, ◌⊎◌, List, [], ◌∷◌, ◌++◌, map, length, take, drop, Some, Ok, codes, decimal}
-use Rattle.std.specs.List.{join_with_byte, flat_map, AllByRecursion as All}
+use Rattle.std.specs.List.{join_with_byte, flat_map, AllByRecursion}
 use Rattle.entries.specs.declared.header.Header.{Header}
 use Rattle.entries.specs.Lines.{lines}
 use Rattle.entries.specs.Headers.{within_limits}
@@ -20,8 +20,8 @@ pub record Lawful (e : WrittenEntry) : Type 0 where
   pub limits : within_limits e.header ≡ true
   pub weight : goes_with e.header.field e.header.weight ≡ true
   pub count : length e.rows ≡ e.header.k
-  pub lengths : All (λ row. length row ≡ e.header.n) e.rows
-  pub codes : All (All (λ a. a < order e.header.field)) e.rows
+  pub lengths : AllByRecursion (λ row. length row ≡ e.header.n) e.rows
+  pub codes : AllByRecursion (AllByRecursion (λ a. a < order e.header.field)) e.rows
 
 -- The line of a header: six words parted by single spaces.
 abbrev pub header_line : Header → List ℕ
