@@ -1,4 +1,6 @@
 // Reads entry texts from standard input and prints a line for each entry, and for the first fault.
+#![tactic(auto)]
+
 use anyhow::anyhow;
 use entries::{EntryReader, FieldName, Header, MOST_BYTES, MOST_CODES, TextRefusal, WeightName};
 use fields::{Field, Gf4, Hamming, Lee, PrimeField, SymbolWeight};
