@@ -1,4 +1,6 @@
 // Reads entry texts from standard input and prints the generator forms of each entry's matrix.
+#![tactic(auto)]
+
 use anyhow::anyhow;
 use entries::{EntryReader, FieldName, Header, MOST_BYTES, MOST_CODES, TextRefusal};
 use fields::{Field, Gf4, PrimeField};
