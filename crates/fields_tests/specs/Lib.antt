@@ -1,2 +1,2 @@
 pub mod Renamed
-pub mod RenamedFiveFieldLemmas
+pub mod RenamedLaws

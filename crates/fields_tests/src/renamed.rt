@@ -1,10 +1,7 @@
 // The field of five elements with the codes 2 and 3 exchanged.
-ghost use Rattle.std.specs.Prelude.{◌≡◌, ℕ, ◌+◌, ◌-◌, ◌*◌, ◌%◌, ◌<◌, refl};
-ghost use Rattle.std.proofs.Common.{ap, ◌∙◌};
+ghost use Rattle.std.specs.Prelude.{◌≡◌, ◌<◌};
 ghost use Rattle.fields_tests.specs.Renamed.{rename, renamed_five, renamed_negation, renamed_inversion};
-ghost use Rattle.theory.specs.Meanings.{read_below};
-ghost use Rattle.fields.specs.Finite.{field_laws};
-ghost use Rattle.fields_tests.specs.RenamedFiveFieldLemmas.{reads};
+ghost use Rattle.fields_tests.specs.RenamedLaws.{renamed_laws};
 
 use fields::Field;
 
@@ -33,13 +30,7 @@ impl Field for RenamedFive {
 
     ghost inversion = { λ _. renamed_inversion };
 
-    ghost lawful = { λ f.
-        field_laws renamed_five renamed_negation renamed_inversion refl (record {
-          sums = λ a b. ap (λ (x : ℕ). rename ((x + rename b) % 5)) (reads a) ∙ ap (λ (y : ℕ). rename ((rename (read_below 5 a) + y) % 5)) (reads b);
-          products = λ a b. ap (λ (x : ℕ). rename ((x * rename b) % 5)) (reads a) ∙ ap (λ (y : ℕ). rename ((rename (read_below 5 a) * y) % 5)) (reads b);
-          negatives = λ a. ap (λ (x : ℕ). rename ((5 - x) % 5)) (reads a);
-          inverses = reads;
-        }) };
+    ghost lawful = { λ _. renamed_laws };
 
     fn order(&self) -> u8 {
         5
