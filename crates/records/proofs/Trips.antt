@@ -1,12 +1,11 @@
 -- There and back: the records of a trail, and the trail of its records.
-use Rattle.std.proofs.Common.{◌≡◌, ℕ, ◌+◌, ◌*◌, ◌/◌, ◌%◌, ◌<◌, ◌≤◌, true, false, cond, eqb, ltb, List, [], ◌∷◌, ◌++◌, length, drop, IfOk, Some, None, Ok, Err, Option, Result, sym, refl, ap, ◌∙◌, ⊎_elim, arith, MatchResult}
+use Rattle.std.proofs.Common.{◌≡◌, ℕ, ◌+◌, ◌*◌, ◌/◌, ◌%◌, ◌<◌, cond, eqb, ltb, List, [], ◌∷◌, ◌++◌, length, drop, IfOk, Some, None, Ok, Err, Option, Result, sym, refl, ap, ◌∙◌, ⊎_elim, arith, MatchResult}
 use Rattle.std.specs.List.{AllByRecursion as All}
-use Rattle.std.proofs.lemmas.List.{length-append}
-use Rattle.std.proofs.lemmas.Bool.{cases_Bool, cond-true, cond-false, lt-ltb, le-ltb, ltb-false, eq-eqb}
+use Rattle.std.proofs.lemmas.Bool.{cases_Bool, cond-true, cond-false, eq-eqb}
 use Rattle.records.specs.declared.refusal.TrailRefusal.{TrailRefusal}
 use Rattle.records.specs.declared.refusal.TrailRefusal.TheVariants.{BufferShort, PartialRecord, FieldOutside, RollFull}
 use Rattle.records.specs.declared.trail.TrailRecord.{TrailRecord}
-use Rattle.records.specs.Trails.{in_range, record_of, record_bytes, trail, records_in, first_outside, write_fault, bytes_after, trail_fault, read_fault, records_after, refusal_of, short_fault}
+use Rattle.records.specs.Trails.{in_range, trail, records_in, first_outside, write_fault, bytes_after, trail_fault, read_fault, records_after, refusal_of, short_fault}
 use Rattle.records.proofs.SixBytes.{visits-back, bytes_back}
 
 -- a written trail reads back as its records

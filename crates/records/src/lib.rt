@@ -1,4 +1,6 @@
 // Rolls, which keep records in slots of the caller, and trails, which write down what was raised.
+#![tactic(auto)]
+
 mod refusal;
 mod roll;
 mod trail;

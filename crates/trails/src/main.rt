@@ -1,4 +1,6 @@
 // Reads and writes trails on request: one request a line of standard input, one answer a line.
+#![tactic(auto)]
+
 mod requests;
 
 use records::{Roll, RollRefusal, TrailRecord, TrailRefusal, read_trail, write_trail};

@@ -5,13 +5,13 @@ use Rattle.std.proofs.lemmas.Bool.{cond-true, cond-false}
 use Rattle.records.specs.Trails.{in_range, first_outside}
 use Rattle.records.proofs.trail.first_outside.Goals as goal
 
-pub returns-then-not-in-range : goal.returns-then-not-in-range
-returns-then-not-in-range c =
+pub returns-then-not-in_range : goal.returns-then-not-in_range
+returns-then-not-in_range c =
     let rs = c.args.items.now in
     let i = c.loop-i.i in
     let r = get_or rs i (record { form = 0; visits = 0; level = 0 }) in
     let step : first_outside i (drop i rs) ≡ cond (in_range r) (first_outside (i + 1) (drop (i + 1) rs)) (Some i) = at_drop_more (first_outside i) rs i (record { form = 0; visits = 0; level = 0 }) c.loop-i-test.true in
-    record { value = sym (sym c.loop-i.invariant ∙ step ∙ cond-false (in_range r) _ _ (sym c.if-not-in-range.ensures.value)) }
+    record { value = sym (sym c.loop-i.invariant ∙ step ∙ cond-false (in_range r) _ _ (sym c.if-not-in_range.ensures.value)) }
 
 pub loop-i-preserved : goal.loop-i-preserved
 loop-i-preserved c =
@@ -19,7 +19,7 @@ loop-i-preserved c =
     let i = c.loop-i.i in
     let r = get_or rs i (record { form = 0; visits = 0; level = 0 }) in
     let step : first_outside i (drop i rs) ≡ cond (in_range r) (first_outside (i + 1) (drop (i + 1) rs)) (Some i) = at_drop_more (first_outside i) rs i (record { form = 0; visits = 0; level = 0 }) c.loop-i-test.true in
-    sym (cond-true (in_range r) _ _ (sym c.if-not-in-range.ensures.value)) ∙ sym step ∙ c.loop-i.invariant
+    sym (cond-true (in_range r) _ _ (sym c.if-not-in_range.ensures.value)) ∙ sym step ∙ c.loop-i.invariant
 
 pub returns : goal.returns
 returns c =
