@@ -1,5 +1,5 @@
 -- What holds of every visit counter, from the promises of its type.
-use Rattle.std.proofs.Common.{◌≡◌, ℕ, ◌<◌, ◌≤◌, true, List, length, sym, ◌∙◌, arith}
+use Rattle.std.proofs.Common.{◌≡◌, ℕ, ◌<◌, ◌≤◌, true, List, length, arith}
 use Rattle.choices.specs.Places.{StandsAt}
 use Rattle.choices.specs.Sizes.{level_size}
 use Rattle.choices.specs.Choosing.{chosen}

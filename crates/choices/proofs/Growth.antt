@@ -1,5 +1,5 @@
 -- A level has no more visits than its code has words; products that stop at a largest number.
-use Rattle.std.proofs.Common.{◌≡◌, ℕ, zero, suc, ◌+◌, ◌-◌, ◌*◌, ◌^◌, ◌<◌, ◌≤◌, min, ap, ◌∙◌, ⊎_elim, suc-mul, add-mul, mul-le-mul_left, mul-zero, zero-mul, mul-suc, mul_left_comm, arith}
+use Rattle.std.proofs.Common.{◌≡◌, ℕ, zero, suc, ◌-◌, ◌*◌, ◌^◌, ◌<◌, ◌≤◌, min, ap, ◌∙◌, ⊎_elim, suc-mul, add-mul, mul-le-mul_left, mul-zero, zero-mul, mul-suc, mul_left_comm, arith}
 use native.Mathlib.Nat.{pow-zero, pow-succ', one-le-pow, pow-le-pow_right}
 use Rattle.std.proofs.lemmas.Bool.{cases_lt}
 use Rattle.theory.specs.Visits.{binomial}

@@ -1,5 +1,5 @@
 -- The visits of a level: how many, each once, and which follows which.
-use Rattle.std.proofs.Common.{◌≡◌, ℕ, zero, suc, ◌+◌, ◌-◌, ◌*◌, ◌^◌, ◌<◌, ◌≤◌, Bool, true, false, ltb, List, [], ◌∷◌, ◌++◌, map, length, get_or, sym, refl, ap, ◌∙◌, subst, ap₂, arith}
+use Rattle.std.proofs.Common.{◌≡◌, ℕ, zero, suc, ◌+◌, ◌-◌, ◌*◌, ◌^◌, ◌≤◌, true, false, ltb, List, [], ◌∷◌, ◌++◌, map, length, get_or, sym, refl, ap, ◌∙◌, subst, ap₂, arith}
 use mathlib.Core.Path.{fun_ext}
 use mathlib.Core.List.{map-append, map-map}
 use lib.ListN.{length-map}
@@ -13,7 +13,7 @@ use Rattle.theory.proofs.Lists.Members.{In, of_map}
 use Rattle.theory.proofs.Lists.Distinct.{Distinct, distinct-map, distinct-joined}
 use Rattle.theory.proofs.Lists.Blocks.{length-joined}
 use Rattle.theory.proofs.Lists.Tests.{decides_same}
-use Rattle.theory.proofs.Lists.Neighbours.{First, Last, Follows, first-map, last-map, follows_map, first-joined, last-joined, follows_joined, follows_joined-between}
+use Rattle.theory.proofs.Lists.Neighbours.{Last, Follows, first-map, last-map, follows_map, first-joined, last-joined, follows_joined, follows_joined-between}
 use Rattle.theory.proofs.Order.Choices.{distinct-choices, length-choices}
 use Rattle.theory.proofs.Order.Coefficients.{distinct-coefficients, length-coefficients}
 use Rattle.choices.specs.Places.{StandsAt, listed, Steps}

@@ -2,6 +2,7 @@ pub mod Pascal
 pub mod Growth
 pub mod Levels
 pub mod Places
+pub mod RowPlaces
 pub mod NextChoices
 pub mod NextLists
 pub mod LevelSteps

@@ -1,6 +1,6 @@
 -- The lowest row that is not at its end takes the step to the next choice; where all are, the choice is the last.
-use Rattle.std.proofs.Common.{◌≡◌, ℕ, zero, suc, ◌+◌, ◌-◌, ◌%◌, ◌<◌, ◌≤◌, Bool, true, false, cond, not, ◌&&◌, eqb, leb, List, ◌∷◌, length, get_or, take, MatchBool, sym, refl, ap, ◌∙◌, subst, inl, inr, ⊎_elim, add-one, arith}
-use mathlib.Core.Bool.{and_true, and_false}
+use Rattle.std.proofs.Common.{◌≡◌, ℕ, zero, suc, ◌+◌, ◌-◌, ◌%◌, ◌<◌, ◌≤◌, Bool, true, false, cond, not, ◌&&◌, eqb, leb, List, ◌∷◌, length, get_or, take, MatchBool, sym, refl, ap, ◌∙◌, subst, ⊎_elim, add-one, arith}
+use mathlib.Core.Bool.{and-true, and-false}
 use Rattle.std.specs.List.{range_with_len}
 use Rattle.std.proofs.lemmas.Bool.{cases_Bool, cases_eq, leb-true, leb-false, cond-true, cond-false, eq-eqb, ne_eqb}
 use Rattle.std.proofs.lemmas.Bool.Decides.{same_from_decides, Decides-like}
@@ -14,7 +14,7 @@ use Rattle.theory.proofs.Order.Exactly.{choices_are}
 use Rattle.theory.proofs.Order.Exchange.{Swapped, swapped}
 use Rattle.theory.proofs.Order.Ends.{first-choices}
 use Rattle.theory.proofs.Order.Doors.{even, even_mod}
-use Rattle.theory.proofs.Order.Rising.{rising_below, rising_length}
+use Rattle.theory.proofs.Order.Rising.{rising_below}
 use Rattle.theory.proofs.Order.Scan.{Blocked, next_up, next_down, next_none}
 use Rattle.choices.specs.Places.{StandsAt, listed, Steps}
 use Rattle.choices.specs.Moves.{goes_up, at_end, AllAtEnd, FirstMovable, raised, lowered}
@@ -34,10 +34,10 @@ rows-after c d out come w x = ⊎_elim comes (λ n. ⊎_elim (leaves n) (stays n
     comes e = rw (eq-eqb x come e) ((among_in x d).1 (subst (λ y. In y d) (sym e) w.has))
 
     leaves : (x ≡ come → ⊥) → x ≡ out → among x d ≡ cond (eqb x come) true (among x c && not (eqb x out))
-    leaves n e = rw (ne_eqb x come n, eq-eqb x out e) (not-among x d (λ m. w.left (subst (λ y. In y d) e m)) ∙ sym (and_false (among x c)))
+    leaves n e = rw (ne_eqb x come n, eq-eqb x out e) (not-among x d (λ m. w.left (subst (λ y. In y d) e m)) ∙ sym (and-false (among x c)))
 
     stays : (x ≡ come → ⊥) → (x ≡ out → ⊥) → among x d ≡ cond (eqb x come) true (among x c && not (eqb x out))
-    stays n m = rw (ne_eqb x come n, ne_eqb x out m) (same_from_decides (among x d) (among x c) (among_in x d) (Decides-like (among x c) (λ i. w.stays x i m) (λ i. w.stayed x i n) (among_in x c)) ∙ sym (and_true (among x c)))
+    stays n m = rw (ne_eqb x come n, ne_eqb x out m) (same_from_decides (among x d) (among x c) (among_in x d) (Decides-like (among x c) (λ i. w.stays x i m) (λ i. w.stayed x i n) (among_in x c)) ∙ sym (and-true (among x c)))
 
 -- From a choice to the next one row leaves and one comes.
 pub steps_exchange : (k t : ℕ) (c d : List ℕ) → listed (choices k t) c ≡ true → Steps (choices k t) true c d → OneExchanged c d
@@ -80,9 +80,6 @@ module _ (k : ℕ) (c : List ℕ) where
 
   pub row_below : listed (choices k (length c)) c ≡ true → (p : ℕ) → p < length c → get_or c p 0 < k
   row_below h p l = (rising_below 0 k c p (rises (listed_in (choices k (length c)) c h)) l).1
-
-  pub few_rows : listed (choices k (length c)) c ≡ true → length c ≤ k
-  few_rows h = omega (arith, rising_length 0 k c (rises (listed_in (choices k (length c)) c h)))
 
   next : (d : List ℕ) → (In c (choices k (length c)) → Follows (choices k (length c)) c d) → Steps (choices k (length c)) true c d
   next d f i s = next_stands (choices k (length c)) (distinct-choices k (length c)) c d (f (stands_in (choices k (length c)) i c s)) i s

@@ -1,15 +1,14 @@
 -- The last coefficient that is not q - 1 takes the step to the next; where there is none behind the first, the coefficients are the last.
-use Rattle.std.proofs.Common.{◌≡◌, ℕ, zero, suc, ◌+◌, ◌-◌, ◌<◌, ◌≤◌, Bool, true, List, [], ◌∷◌, ◌++◌, length, get_or, take, drop, set, replicate, sym, refl, ap, ◌∙◌, subst, inl, inr, ⊎_elim, arith, length-append, length-set}
+use Rattle.std.proofs.Common.{◌≡◌, ℕ, zero, suc, ◌+◌, ◌-◌, ◌<◌, ◌≤◌, true, List, ◌∷◌, length, get_or, take, set, replicate, sym, refl, ap, ◌∙◌, subst, ⊎_elim, arith, length-append, length-set}
 use Rattle.std.proofs.ByRecursion.{All-get_or}
 use Rattle.std.proofs.lemmas.List.{get_or-set_same, get_or-set_other, ext_get_or, get_or_append_left, get_or-append_right, get_or-replicate, get_or-take, get_or_at, length-take-le, length-replicate}
 use Rattle.std.proofs.lemmas.Bool.{cases_lt, cases_eq}
 use Rattle.theory.specs.Visits.{coefficients}
 use Rattle.theory.proofs.Lists.Members.{In}
-use Rattle.theory.proofs.Lists.Neighbours.{Follows}
 use Rattle.theory.proofs.Order.Coefficients.{distinct-coefficients, next_list, end_list, first-list, list-codes}
 use Rattle.theory.proofs.Order.Exactly.{coefficients_are}
 use Rattle.theory.proofs.Order.Visits.{length_lists}
-use Rattle.choices.specs.Places.{StandsAt, listed, Steps}
+use Rattle.choices.specs.Places.{StandsAt, Steps}
 use Rattle.choices.specs.Turns.{FullBehind, LastToTurn, turned}
 use Rattle.choices.specs.Coefficients.{AllLists}
 use Rattle.choices.proofs.Places.{stands_in, first_stands, next_stands, last_stands}

@@ -1,5 +1,5 @@
 -- Places in a list: which element follows, which is the last, and what a test tells.
-use Rattle.std.proofs.Common.{◌≡◌, ℕ, suc, ◌+◌, ◌<◌, Bool, true, List, [], ◌∷◌, ◌++◌, length, get_or, take, drop, sym, refl, ap, ◌∙◌, subst, add-one, arith, length-drop, drop-cons}
+use Rattle.std.proofs.Common.{◌≡◌, ℕ, suc, ◌+◌, ◌<◌, Bool, true, List, ◌∷◌, ◌++◌, length, get_or, take, drop, sym, ap, ◌∙◌, subst, add-one, arith, length-drop, drop-cons}
 use lib.Seq.{take-append_seam, split_at}
 use Rattle.std.proofs.lemmas.List.{get_or_default, nil_from_length}
 use Rattle.theory.proofs.Lists.Members.{In, in-get_or, place_of}

@@ -3,7 +3,7 @@ use Rattle.std.specs.Prelude.{◌≡◌, ℕ, Bool, true, false, cond, not, ◌&
 use Rattle.theory.specs.Codes.{Exactly}
 use Rattle.theory.specs.Forms.{among}
 use Rattle.theory.specs.Visits.{choices, binomial, Choice as RisingRows}
-use Rattle.choices.specs.Places.{StandsAt}
+use Rattle.choices.specs.Moves.{StandsAt}
 use Rattle.choices.specs.declared.choice.Choice.{Choice}
 
 -- The rows chosen, in rising order.
@@ -16,7 +16,7 @@ choosable k t = nat_le k 32 && nat_le t k
 
 -- The first choice of t rows out of k, or none where there is no choice or k is beyond 32.
 abbrev pub FirstOr : ℕ → ℕ → Option Choice → Type 0
-FirstOr k t r = MatchOption r (choosable k t ≡ false) (λ c. (choosable k t ≡ true) × (c.k ≡ k) × (c.t ≡ t) × StandsAt (choices k t) 0 (chosen c))
+FirstOr k t r = MatchOption r (choosable k t ≡ false) (λ c. (choosable k t ≡ true) × (c.k ≡ k) × (c.t ≡ t) × StandsAt k t 0 (chosen c))
 
 -- R(k, t) holds every rising list of t rows below k and nothing else, each exactly once, and C(k, t) of them.
 abbrev pub AllChoices : ℕ → ℕ → Type 0

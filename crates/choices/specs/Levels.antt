@@ -1,9 +1,8 @@
 -- The visits of a level as pairs of rows and coefficients, and what a visit counter stands at.
-use Rattle.std.specs.Prelude.{◌≡◌, ℕ, ◌-◌, ◌^◌, ◌<◌, Bool, true, false, ◌&&◌, List, [], map, length, Option, MatchOption, nat_le, nat_lt}
-use Rattle.std.specs.List.{flat_map}
+use Rattle.std.specs.Prelude.{◌≡◌, ℕ, ◌-◌, ◌^◌, Bool, true, false, ◌&&◌, List, length, Option, MatchOption, nat_le, nat_lt}
 use Rattle.theory.specs.Meanings.{FieldMeaning}
-use Rattle.theory.specs.Codes.{same, combination}
-use Rattle.theory.specs.Visits.{choices, coefficients, picked, visits}
+use Rattle.theory.specs.Codes.{combination}
+use Rattle.theory.specs.Visits.{picked, visits}
 use Rattle.choices.specs.Places.{StandsAt}
 use Rattle.choices.specs.Sizes.{level_size}
 use Rattle.choices.specs.Choosing.{chosen}

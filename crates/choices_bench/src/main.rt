@@ -10,7 +10,7 @@ fn run_choices(choice: &mut Choice, most: u64) -> (u64, u64) {
     let mut sum: u64 = 0;
     for _ in 0..most {
         if let Some(row) = choice.rows().first() {
-            sum = sum.wrapping_add(u64::from(*row));
+            sum = sum.wrapping_add(*row as u64);
         }
         if !choice.step() {
             break;

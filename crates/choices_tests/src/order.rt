@@ -3,7 +3,7 @@ use choices::Choice;
 use std::test::Fail;
 
 // The choice stands at these two rows.
-fn stands_at(choice: &Choice, low: u8, high: u8) -> bool {
+fn stands_at(choice: &Choice, low: usize, high: usize) -> bool {
     match *choice.rows() {
         [a, b] => a == low && b == high,
         _ => false,

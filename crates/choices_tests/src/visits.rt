@@ -10,6 +10,14 @@ fn are(numbers: &[u8], first: u8, second: u8) -> bool {
     }
 }
 
+// The two rows are these.
+fn rows_are(rows: &[usize], first: usize, second: usize) -> bool {
+    match *rows {
+        [a, b] => a == first && b == second,
+        _ => false,
+    }
+}
+
 #[test]
 fn two_coefficients_over_four_codes(rt: HostRuntime) -> Result<(), Fail> {
     let Some(mut list) = Coefficients::first(4, 2) else {
@@ -38,9 +46,9 @@ fn visits_of_two_rows_over_three_codes(rt: HostRuntime) -> Result<(), Fail> {
         return Ok(());
     };
     assert!(rt; counter.left() == 6 && counter.place() == 0);
-    assert!(rt; are(counter.rows(), 0, 1) && are(counter.coefficients(), 1, 1));
-    assert!(rt; counter.step() && are(counter.rows(), 0, 1) && are(counter.coefficients(), 1, 2));
-    assert!(rt; counter.step() && are(counter.rows(), 1, 2) && are(counter.coefficients(), 1, 1));
+    assert!(rt; rows_are(counter.rows(), 0, 1) && are(counter.coefficients(), 1, 1));
+    assert!(rt; counter.step() && rows_are(counter.rows(), 0, 1) && are(counter.coefficients(), 1, 2));
+    assert!(rt; counter.step() && rows_are(counter.rows(), 1, 2) && are(counter.coefficients(), 1, 1));
     assert!(rt; counter.left() == 4 && counter.place() == 2);
     Ok(())
 }
@@ -51,7 +59,7 @@ fn from_any_place_on(rt: HostRuntime) -> Result<(), Fail> {
         assert!(rt; false);
         return Ok(());
     };
-    assert!(rt; are(counter.rows(), 0, 2) && are(counter.coefficients(), 1, 2));
+    assert!(rt; rows_are(counter.rows(), 0, 2) && are(counter.coefficients(), 1, 2));
     assert!(rt; counter.left() == 1 && !counter.step() && counter.left() == 1);
     assert!(rt; VisitCounter::at(3, 2, 3, 6).is_none());
     Ok(())

@@ -1,6 +1,7 @@
 // Prints the choices of T rows out of K in order, or, with Q, the visits of level T over a field of order Q: `order K T [Q]`.
 // Several requests are parted by the word `and`.
 use choices::{Choice, VisitCounter, binomial};
+use std::fmt::Display;
 use std::{env, io};
 
 fn main(rt: HostRuntime) -> anyhow::Result<()> {
@@ -76,7 +77,7 @@ fn refuse_level(rt: &HostRuntime) -> io::Result<()> {
 }
 
 // Numbers parted by single spaces.
-fn print_numbers(rt: &HostRuntime, numbers: &[u8]) -> io::Result<()> {
+fn print_numbers<T: Display>(rt: &HostRuntime, numbers: &[T]) -> io::Result<()> {
     for (i, number) in numbers.iter().enumerate() {
         if i > 0 {
             print!(rt; " ")?;

@@ -1,7 +1,6 @@
 // The first choice, and the step from each to the next.
 ghost use Rattle.std.specs.Prelude.{◌≡◌, ◌≤◌, true};
-ghost use Rattle.theory.specs.Visits.{choices};
-ghost use Rattle.choices.specs.Places.{StandsAt, Steps};
+ghost use Rattle.choices.specs.Moves.{StandsAt, Steps};
 ghost use Rattle.choices.specs.Choosing.{chosen, choosable, FirstOr, AllChoices, OneExchanged};
 
 use super::Choice;
@@ -9,7 +8,7 @@ use crate::steps::step_rows;
 
 // The rows 0 to 31.
 #[rattlefmt::skip]
-const ALL_ROWS: [u8; 32] = [
+const ALL_ROWS: [usize; 32] = [
     0, 1, 2, 3, 4, 5, 6, 7, 8, 9, 10, 11, 12, 13, 14, 15,
     16, 17, 18, 19, 20, 21, 22, 23, 24, 25, 26, 27, 28, 29, 30, 31,
 ];
@@ -25,12 +24,12 @@ fn is_choosable(k: usize, t: usize) -> bool
 // The choice of the lowest t rows, which is the first.
 pub(crate) fn first_choice(k: usize, t: usize) -> Choice
     requires { (k ≤ 32) × (t ≤ k) }
-    ensures value { (result.k ≡ k) × (result.t ≡ t) × StandsAt (choices k t) 0 (chosen result) }
+    ensures value { (result.k ≡ k) × (result.t ≡ t) × StandsAt k t 0 (chosen result) }
 {
     Choice {
         rows: ALL_ROWS,
         t,
-        k: k as u8,
+        k,
     }
 }
 
@@ -54,7 +53,7 @@ impl Choice {
     }
 
     // The rows chosen.
-    pub fn rows(&self) -> &[u8]
+    pub fn rows(&self) -> &[usize]
         ensures value { result.now ≡ chosen self.now }
     {
         &self.rows[..self.t]
@@ -62,7 +61,7 @@ impl Choice {
 
     // The step to the next choice; false, and nothing changes, at the last.
     pub fn step(&mut self) -> bool
-        ensures value { Steps (choices self.old.k self.old.t) result (chosen self.old) (chosen self.new) }
+        ensures value { Steps self.old.k self.old.t result (chosen self.old) (chosen self.new) }
         ensures exchange { result ≡ true → OneExchanged (chosen self.old) (chosen self.new) }
         ensures same { (self.new.k ≡ self.old.k) × (self.new.t ≡ self.old.t) }
     {

@@ -86,7 +86,7 @@ impl VisitCounter {
     }
 
     // The rows of the visit.
-    pub fn rows(&self) -> &[u8]
+    pub fn rows(&self) -> &[usize]
         ensures value { result.now ≡ (visit_of self.now).0 }
     {
         self.choice.rows()

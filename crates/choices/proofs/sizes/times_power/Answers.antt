@@ -1,5 +1,5 @@
 -- One factor more.
-use Rattle.std.proofs.Common.{◌≡◌, ℕ, suc, ◌+◌, ◌-◌, ◌*◌, ◌^◌, min, sym, ap, ◌∙◌, mul_assoc, pow-suc, mul-one, arith}
+use Rattle.std.proofs.Common.{◌≡◌, suc, ◌+◌, ◌-◌, ◌*◌, ◌^◌, min, sym, ap, ◌∙◌, mul_assoc, pow-suc, mul-one, arith}
 use native.Mathlib.Nat.{pow-zero}
 use Rattle.choices.proofs.Growth.{stop_times}
 use Rattle.choices.proofs.sizes.times_power.Goals as goal
@@ -17,4 +17,4 @@ loop-preserved c =
     let i = c.loop.counter in
     let more : suc i ≡ i + 1 = omega arith in
     let next : a * b ^ i * b ≡ a * b ^ (i + 1) = mul_assoc a (b ^ i) b ∙ ap (λ x. a * x) (sym (pow-suc b i) ∙ ap (λ j. b ^ j) more) in
-    c.saturating-mul-total.ensures ∙ ap (λ x. min (x * b) (2 ^ 64 - 1)) c.loop.invariant ∙ stop_times (a * b ^ i) b (2 ^ 64 - 1) ∙ ap (λ x. min x (2 ^ 64 - 1)) next
+    c.saturating_mul-total.ensures ∙ ap (λ x. min (x * b) (2 ^ 64 - 1)) c.loop.invariant ∙ stop_times (a * b ^ i) b (2 ^ 64 - 1) ∙ ap (λ x. min x (2 ^ 64 - 1)) next

@@ -1,5 +1,5 @@
 -- Past the rows stands k.
-use Rattle.std.proofs.Common.{◌+◌, sym, arith}
+use Rattle.std.proofs.Common.{◌+◌, sym}
 use Rattle.std.proofs.lemmas.List.{get_or_default, get_or_past}
 use Rattle.choices.proofs.steps.row_above.Goals as goal
 

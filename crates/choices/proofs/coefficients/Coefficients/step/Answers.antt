@@ -5,12 +5,12 @@ use Rattle.choices.proofs.Places.{front_test, front_steps}
 use Rattle.choices.proofs.NextLists.{list_length}
 use Rattle.choices.proofs.coefficients.Coefficients.step.Goals as goal
 
-pub invariant-of-self : goal.invariant-of-self
-invariant-of-self c =
+pub invariant_of-self : goal.invariant_of-self
+invariant_of-self c =
     let list = c.args.self.now in
-    (list.small, (list.two, (front_test (coefficients list.q) (list_length list.q list.two) list.t list.codes c.step-codes-moved.new.codes list.stands c.step-codes-moved.ensures.stands, tt)))
+    record { small = list.small; two = list.two; stands = front_test (coefficients list.q) (list_length list.q list.two) list.t list.codes c.step_codes-moved.new.codes list.stands c.step_codes-moved.ensures.stands }
 
 pub returns : goal.returns
 returns c =
     let list = c.args.self.now in
-    record { value = front_steps (coefficients list.q) (list_length list.q list.two) list.t list.codes c.step-codes-moved.new.codes list.stands c.step-codes-moved.ensures.stands c.step-codes-moved.result c.step-codes-moved.ensures.value; same = (refl, refl) }
+    record { value = front_steps (coefficients list.q) (list_length list.q list.two) list.t list.codes c.step_codes-moved.new.codes list.stands c.step_codes-moved.ensures.stands c.step_codes-moved.result c.step_codes-moved.ensures.value; same = (refl, refl) }

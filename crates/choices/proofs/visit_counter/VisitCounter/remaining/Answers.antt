@@ -3,8 +3,8 @@ use Rattle.std.proofs.Common.{◌-◌, ap, arith}
 use Rattle.choices.proofs.Counters.{counter_below}
 use Rattle.choices.proofs.visit_counter.VisitCounter.remaining.Goals as goal
 
-pub overflow-sub-result : goal.overflow-sub-result
-overflow-sub-result c = omega (arith, counter_below c.args.self.now, c.args.self.now.whole)
+pub overflow_sub-result : goal.overflow_sub-result
+overflow_sub-result c = omega (arith, counter_below c.args.self.now, c.args.self.now.whole)
 
 pub returns : goal.returns
 returns c =

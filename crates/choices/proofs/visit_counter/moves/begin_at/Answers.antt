@@ -1,5 +1,5 @@
 -- After as many steps as asked for, the counter stands at that visit.
-use Rattle.std.proofs.Common.{◌≡◌, ◌∙◌, subst, arith}
+use Rattle.std.proofs.Common.{◌≡◌, subst, arith}
 use Rattle.std.proofs.lemmas.Bool.{and_from, lt-ltb}
 use Rattle.choices.specs.Sizes.{level_size}
 use Rattle.choices.specs.Levels.{has_level, CounterAt}

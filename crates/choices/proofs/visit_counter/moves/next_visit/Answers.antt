@@ -1,10 +1,10 @@
 -- The step of the coefficients, or of the choice with the first coefficients, is the step of the visits.
-use Rattle.std.proofs.Common.{◌≡◌, ℕ, ◌+◌, true, false, List, length, take, sym, refl, ap, ◌∙◌, subst, ap₂}
-use Rattle.theory.specs.Visits.{choices, coefficients}
+use Rattle.std.proofs.Common.{◌≡◌, ℕ, ◌+◌, true, List, length, sym, refl, ◌∙◌, subst, ap₂}
+use Rattle.theory.specs.Visits.{coefficients}
 use Rattle.choices.specs.Places.{StandsAt, listed, Steps}
 use Rattle.choices.specs.Choosing.{chosen}
 use Rattle.choices.specs.Coefficients.{codes_of}
-use Rattle.choices.specs.LevelVisits.{level_visits}
+use Rattle.choices.proofs.RowPlaces.{to_choice, from_choice_steps}
 use Rattle.choices.proofs.LevelSteps.{next_coefficients, next_choice, last_visit}
 use Rattle.choices.proofs.visit_counter.moves.next_visit.Goals as goal
 
@@ -37,7 +37,7 @@ returns-then-not-step c =
     record {
       value = (
         ap₂ (λ (x y : List ℕ). (x, y)) last.value.0 over.value.0,
-        last_visit choice.k choice.t list.q (chosen choice) (codes_of list) choice.stands (listed_here choice.t list.t list.q c.requires (codes_of list) list.stands) (over_here choice.t list.t list.q c.requires (codes_of list) over.value.1) last.value.1,
+        last_visit choice.k choice.t list.q (chosen choice) (codes_of list) choice.stands (listed_here choice.t list.t list.q c.requires (codes_of list) list.stands) (over_here choice.t list.t list.q c.requires (codes_of list) over.value.1) (λ i s. last.value.1 i (to_choice choice.k choice.t i (chosen choice) s)),
       );
       same = (last.same.0, last.same.1, over.same.0, over.same.1);
     }
@@ -54,6 +54,6 @@ returns c =
     let first : StandsAt (coefficients list.q choice.t) 0 ones =
     subst (λ r. StandsAt (coefficients list.q r) 0 ones) (over.same.1 ∙ sym c.requires) (subst (λ r. StandsAt (coefficients r kept.t) 0 ones) over.same.0 begun.after) in
     record {
-      value = next_choice choice.k choice.t list.q (chosen choice) (codes_of list) choice.stands (listed_here choice.t list.t list.q c.requires (codes_of list) list.stands) (over_here choice.t list.t list.q c.requires (codes_of list) over.value.1) (chosen c.step-2.new.self) ones stepped.value first;
+      value = next_choice choice.k choice.t list.q (chosen choice) (codes_of list) choice.stands (listed_here choice.t list.t list.q c.requires (codes_of list) list.stands) (over_here choice.t list.t list.q c.requires (codes_of list) over.value.1) (chosen c.step-2.new.self) ones (from_choice_steps choice.k choice.t true (chosen choice) (chosen c.step-2.new.self) stepped.value) first;
       same = (stepped.same.0, stepped.same.1, begun.same.0 ∙ over.same.0, begun.same.1 ∙ over.same.1);
     }
