@@ -1,6 +1,6 @@
 -- What coefficients are, where they begin, and what all of them are.
 use Rattle.std.specs.Prelude.{◌≡◌, ℕ, ◌-◌, ◌^◌, ◌<◌, ◌≤◌, Bool, true, false, ◌&&◌, List, length, take, Option, MatchOption, nat_le, slice_index}
-use Rattle.std.specs.List.{AllByRecursion as All}
+use Rattle.std.specs.List.{AllByRecursion}
 use Rattle.theory.specs.Codes.{Exactly}
 use Rattle.theory.specs.Visits.{coefficients}
 use Rattle.choices.specs.Places.{StandsAt}
@@ -20,7 +20,7 @@ FirstListOr q t r = MatchOption r (has_lists q t ≡ false) (λ c. (has_lists q 
 
 -- Lists of t nonzero codes that begin with 1.
 abbrev pub BeginWithOne : ℕ → ℕ → List ℕ → Type 0
-BeginWithOne q t cs = (length cs ≡ t) × (slice_index cs 0 ≡ 1) × All (λ c. (1 ≤ c) × (c < q)) cs
+BeginWithOne q t cs = (length cs ≡ t) × (slice_index cs 0 ≡ 1) × AllByRecursion (λ c. (1 ≤ c) × (c < q)) cs
 
 -- The coefficients of t rows are all lists of t nonzero codes that begin with 1 and no others, each exactly once, and (q - 1)^(t - 1) of them.
 abbrev pub AllLists : ℕ → ℕ → Type 0
