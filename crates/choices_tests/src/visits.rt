@@ -47,8 +47,12 @@ fn visits_of_two_rows_over_three_codes(rt: HostRuntime) -> Result<(), Fail> {
     };
     assert!(rt; counter.left() == 6 && counter.place() == 0);
     assert!(rt; rows_are(counter.rows(), 0, 1) && are(counter.coefficients(), 1, 1));
-    assert!(rt; counter.step() && rows_are(counter.rows(), 0, 1) && are(counter.coefficients(), 1, 2));
-    assert!(rt; counter.step() && rows_are(counter.rows(), 1, 2) && are(counter.coefficients(), 1, 1));
+    assert!(rt;
+        counter.step() && rows_are(counter.rows(), 0, 1) && are(counter.coefficients(), 1, 2)
+    );
+    assert!(rt;
+        counter.step() && rows_are(counter.rows(), 1, 2) && are(counter.coefficients(), 1, 1)
+    );
     assert!(rt; counter.left() == 4 && counter.place() == 2);
     Ok(())
 }
