@@ -1,5 +1,4 @@
 // The order in which a level visits its words: choices of rows, their coefficients, a counter that goes through both, and the sizes of levels.
-
 #![tactic(auto)]
 
 mod binomials;

@@ -1,6 +1,5 @@
 // How long it takes to step through choices of rows and through the visits of levels.
 // What is printed to standard output are sums over the steps, so that the work is really done; the times go to standard error.
-
 #![tactic(auto)]
 
 use anyhow::anyhow;

@@ -1,5 +1,4 @@
 // Binomial numbers, the sizes of levels, the order of choices and of visits, as a user would ask for them.
-
 #![tactic(auto)]
 
 #[cfg(test)]

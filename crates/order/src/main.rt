@@ -1,6 +1,5 @@
 // Prints the choices of T rows out of K in order, or, with Q, the visits of level T over a field of order Q: `order K T [Q]`.
 // Several requests are parted by the word `and`.
-
 #![tactic(auto)]
 
 use choices::{Choice, VisitCounter, binomial};
