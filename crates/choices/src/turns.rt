@@ -1,6 +1,6 @@
 // The step from the coefficients of some rows to the next.
 ghost use Rattle.std.specs.Prelude.{◌≡◌, ◌<◌, ◌≤◌, true, length, MatchOption, slice_index};
-ghost use Rattle.theory.specs.Visits.{coefficients as coefficient-lists};
+ghost use Rattle.theory.specs.Visits.{coefficients as coefficient_lists};
 ghost use Rattle.choices.specs.Places.{listed, Steps};
 ghost use Rattle.choices.specs.Turns.{FullBehind, LastToTurn, turned};
 
@@ -30,9 +30,9 @@ fn turn_at(codes: &mut [u8], place: usize)
 
 // The step to the next coefficients; false, and nothing changes, after the last.
 pub(crate) fn step_codes(codes: &mut [u8], q: u8) -> bool
-    requires { (2 ≤ q) × (listed (coefficient-lists q (length codes.old)) codes.old ≡ true) }
-    ensures value { Steps (coefficient-lists q (length codes.old)) result codes.old codes.new }
-    ensures stands { listed (coefficient-lists q (length codes.old)) codes.new ≡ true }
+    requires { (2 ≤ q) × (listed (coefficient_lists q (length codes.old)) codes.old ≡ true) }
+    ensures value { Steps (coefficient_lists q (length codes.old)) result codes.old codes.new }
+    ensures stands { listed (coefficient_lists q (length codes.old)) codes.new ≡ true }
 {
     let Some(place) = place_to_turn(codes, q) else {
         return false;

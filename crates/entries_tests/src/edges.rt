@@ -4,44 +4,36 @@ use entries::{EntryReader, FieldName, MOST_CODES, WeightName};
 use std::test::Fail;
 
 #[test]
-fn ends_of_text(rt: HostRuntime) -> Result<(), Fail> {
-    ends(&rt, b"", 0);
-    refused(&rt, b"\n", 0, 61, 1, 1)?;
-    ends(&rt, b"code 3 2 2 GF(2) hamming\n110\n011", 1);
-    ends(&rt, b"code 3 2 2 GF(2) hamming\n110\n011\n", 1);
-    ends(&rt, b"code 3 2 2 GF(2) hamming\n110\n011\n\n", 1);
-    refused(
-        &rt,
-        b"code 3 2 2 GF(2) hamming\n110\n011\n\n\n",
-        1,
-        61,
-        5,
-        1,
-    )?;
-    refused(&rt, b"code 3 2 2 GF(2) hamming\n110\n", 0, 66, 3, 1)?;
-    refused(&rt, b"code 3 2 2 GF(2) hamming\n110", 0, 66, 3, 1)?;
-    refused(&rt, b"code 3 2 2 GF(2) hamming", 0, 66, 2, 1)?;
-    refused(&rt, b"\xff\x80 3 2 2 GF(2) hamming\n", 0, 61, 1, 1)
+fn ends_of_text() -> Result<(), Fail> {
+    ends(b"", 0)?;
+    refused(b"\n", 0, 61, 1, 1)?;
+    ends(b"code 3 2 2 GF(2) hamming\n110\n011", 1)?;
+    ends(b"code 3 2 2 GF(2) hamming\n110\n011\n", 1)?;
+    ends(b"code 3 2 2 GF(2) hamming\n110\n011\n\n", 1)?;
+    refused(b"code 3 2 2 GF(2) hamming\n110\n011\n\n\n", 1, 61, 5, 1)?;
+    refused(b"code 3 2 2 GF(2) hamming\n110\n", 0, 66, 3, 1)?;
+    refused(b"code 3 2 2 GF(2) hamming\n110", 0, 66, 3, 1)?;
+    refused(b"code 3 2 2 GF(2) hamming", 0, 66, 2, 1)?;
+    refused(b"\xff\x80 3 2 2 GF(2) hamming\n", 0, 61, 1, 1)
 }
 
 #[test]
-fn largest_claims(rt: HostRuntime) {
-    ends(&rt, b"code 3 2 3 GF(13) hamming\n11c\n011\n", 1);
-    ends(&rt, b"code 3 1 6 GF(5) lee\n122\n", 1);
-    ends(&rt, b"code 1 1 6 GF(13) lee\nc\n", 1);
+fn largest_claims() -> Result<(), Fail> {
+    ends(b"code 3 2 3 GF(13) hamming\n11c\n011\n", 1)?;
+    ends(b"code 3 1 6 GF(5) lee\n122\n", 1)?;
+    ends(b"code 1 1 6 GF(13) lee\nc\n", 1)?;
     ends(
-        &rt,
         b"code 1 1 1 GF(4) hamming\n3\n\ncode 1 1 1 GF(2) lee\n1\n",
         2,
-    );
+    )
 }
 
 #[test]
 fn largest_text(rt: HostRuntime) -> Result<(), Fail> {
     let full = vec![in rt.alloc(); b'x'; 60_000]?;
-    refused(&rt, full.as_slice(), 0, 61, 1, 1)?;
+    refused(full.as_slice(), 0, 61, 1, 1)?;
     let over = vec![in rt.alloc(); b'x'; 60_001]?;
-    refused(&rt, over.as_slice(), 0, 60, 0, 0)
+    refused(over.as_slice(), 0, 60, 0, 0)
 }
 
 #[test]

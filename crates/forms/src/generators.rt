@@ -1,7 +1,7 @@
 // Dependent rows and generator forms of a matrix, for any caller.
 ghost use Rattle.std.specs.Prelude.{◌≡◌, ◌*◌, ◌≤◌, ◌++◌, map, length, drop, is_some, if◌then◌else◌, OnOk};
 ghost use Rattle.theory.specs.Facts.{Matrix, Independent};
-ghost use Rattle.theory.specs.Forms.{form as form-told, forms as forms-told};
+ghost use Rattle.theory.specs.Forms.{form as form_told, forms as forms_told};
 ghost use Rattle.forms.specs.Matrices.{rows_of};
 ghost use Rattle.forms.specs.ColumnMarks.{marked_columns};
 ghost use Rattle.forms.specs.FormRecords.{record_of};
@@ -34,7 +34,7 @@ fn marked_form<F: Field>(field: &F, codes: &[u8], k: usize, n: usize, used: &[bo
     requires shape { (n ≤ 64) × (k ≤ 32) × (length codes.now ≡ k * n) }
     requires matrix { Matrix (F.Field.meaning field.now) n (rows_of k n codes.now) }
     requires independent { Independent (F.Field.meaning field.now) n (rows_of k n codes.now) }
-    ensures value { result ≡ record_of (form-told (F.Field.meaning field.now) n (rows_of k n codes.now) (marked_columns n used.now)) }
+    ensures value { result ≡ record_of (form_told (F.Field.meaning field.now) n (rows_of k n codes.now) (marked_columns n used.now)) }
 {
     form_with(field, codes, k, n, used)
 }
@@ -50,7 +50,7 @@ pub fn make_form<F: Field>(
     form: &mut Form,
 ) -> Result<(), FormsRefusal>
     ensures value { result ≡ told (forms_fault (F.Field.meaning field.now) k n codes.now (length scratch.old)) tt }
-    ensures after { form.new ≡ (if is_some (forms_fault (F.Field.meaning field.now) k n codes.now (length scratch.old)) then form.old else record_of (form-told (F.Field.meaning field.now) n (rows_of k n codes.now) (marked_columns n used.now))) }
+    ensures after { form.new ≡ (if is_some (forms_fault (F.Field.meaning field.now) k n codes.now (length scratch.old)) then form.old else record_of (form_told (F.Field.meaning field.now) n (rows_of k n codes.now) (marked_columns n used.now))) }
     ensures scratch { ScratchAfter k n (matrix_fault (F.Field.meaning field.now) k n codes.now (length scratch.old)) scratch.old scratch.new }
 {
     check_rows(field, codes, k, n, scratch)?;
@@ -67,8 +67,8 @@ pub fn make_forms<F: Field>(
     scratch: &mut [u8],
     forms: &mut [Form; 8],
 ) -> Result<usize, FormsRefusal>
-    ensures value { result ≡ told (forms_fault (F.Field.meaning field.now) k n codes.now (length scratch.old)) (length (forms-told (F.Field.meaning field.now) n (rows_of k n codes.now))) }
-    ensures after { forms.new ≡ (if is_some (forms_fault (F.Field.meaning field.now) k n codes.now (length scratch.old)) then forms.old else map record_of (forms-told (F.Field.meaning field.now) n (rows_of k n codes.now)) ++ drop (length (forms-told (F.Field.meaning field.now) n (rows_of k n codes.now))) forms.old) }
+    ensures value { result ≡ told (forms_fault (F.Field.meaning field.now) k n codes.now (length scratch.old)) (length (forms_told (F.Field.meaning field.now) n (rows_of k n codes.now))) }
+    ensures after { forms.new ≡ (if is_some (forms_fault (F.Field.meaning field.now) k n codes.now (length scratch.old)) then forms.old else map record_of (forms_told (F.Field.meaning field.now) n (rows_of k n codes.now)) ++ drop (length (forms_told (F.Field.meaning field.now) n (rows_of k n codes.now))) forms.old) }
     ensures scratch { ScratchAfter k n (matrix_fault (F.Field.meaning field.now) k n codes.now (length scratch.old)) scratch.old scratch.new }
     ensures systematic { OnOk result (FormsAreSystematic (F.Field.meaning field.now) n (rows_of k n codes.now)) }
 {

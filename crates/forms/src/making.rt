@@ -1,6 +1,6 @@
 // The forms of a matrix with independent rows.
 ghost use Rattle.std.specs.Prelude.{◌≡◌, ℕ, ◌*◌, ◌≤◌, List, ◌++◌, map, length, drop};
-ghost use Rattle.theory.specs.Forms.{form as form-told, forms as forms-told};
+ghost use Rattle.theory.specs.Forms.{form as form_told, forms as forms_told};
 ghost use Rattle.theory.specs.Facts.{Matrix, Independent};
 ghost use Rattle.forms.specs.Matrices.{rows_of};
 ghost use Rattle.forms.specs.ColumnMarks.{MarksUsed};
@@ -34,7 +34,7 @@ pub(crate) fn form_with<F: Field>(
     requires shape { (n ≤ 64) × (k ≤ 32) × (length codes.now ≡ k * n) }
     requires matrix { Matrix (F.Field.meaning field.now) n (rows_of k n codes.now) }
     requires independent { Independent (F.Field.meaning field.now) n (rows_of k n codes.now) }
-    ensures value { (used : List ℕ) → MarksUsed n marks.now used → result ≡ record_of (form-told (F.Field.meaning field.now) n (rows_of k n codes.now) used) }
+    ensures value { (used : List ℕ) → MarksUsed n marks.now used → result ≡ record_of (form_told (F.Field.meaning field.now) n (rows_of k n codes.now) used) }
 {
     let order = order_columns(marks, n);
     let mut rows = padded_rows(codes);
@@ -60,8 +60,8 @@ pub(crate) fn all_forms<F: Field>(
     requires shape { (n ≤ 64) × (k ≤ 32) × (length codes.now ≡ k * n) }
     requires matrix { Matrix (F.Field.meaning field.now) n (rows_of k n codes.now) }
     requires independent { Independent (F.Field.meaning field.now) n (rows_of k n codes.now) }
-    ensures value { result ≡ length (forms-told (F.Field.meaning field.now) n (rows_of k n codes.now)) }
-    ensures after { forms.new ≡ map record_of (forms-told (F.Field.meaning field.now) n (rows_of k n codes.now)) ++ drop result forms.old }
+    ensures value { result ≡ length (forms_told (F.Field.meaning field.now) n (rows_of k n codes.now)) }
+    ensures after { forms.new ≡ map record_of (forms_told (F.Field.meaning field.now) n (rows_of k n codes.now)) ++ drop result forms.old }
     ensures systematic { FormsAreSystematic (F.Field.meaning field.now) n (rows_of k n codes.now) }
 {
     let mut marks = [false; 64];

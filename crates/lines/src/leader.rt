@@ -3,7 +3,7 @@ ghost use Rattle.std.specs.Prelude.{◌≡◌, ◌<◌, not, T};
 ghost use Rattle.theory.specs.Codes.{times, is_zero};
 ghost use Rattle.theory.specs.Standings.{LinearCode};
 ghost use Rattle.theory.specs.Promises.{Below};
-ghost use Rattle.theory.specs.Calls.{leader as leader-told};
+ghost use Rattle.theory.specs.Calls.{leader as leader_told};
 ghost use Rattle.lines.specs.FirstSymbols.{first_nonzero};
 
 use fields::{Field, multiply};
@@ -23,7 +23,7 @@ fn first_nonzero(word: &[u8]) -> u8
 // A word becomes the multiple that has 1 as its first nonzero symbol.
 fn lead<F: Field>(field: &F, word: &mut [u8])
     ensures after { word.new ≡ times (F.Field.meaning field.now) (F.Field.inversion field.now (first_nonzero word.old)) word.old }
-    ensures leads { (c : LinearCode) → c.field ≡ F.Field.meaning field.now → Below c.field.order word.old → T (not (is_zero word.old)) → word.new ≡ leader-told c word.old }
+    ensures leads { (c : LinearCode) → c.field ≡ F.Field.meaning field.now → Below c.field.order word.old → T (not (is_zero word.old)) → word.new ≡ leader_told c word.old }
 {
     let inverse = field.inverse(first_nonzero(word));
     multiply(field, inverse, word);
@@ -32,7 +32,7 @@ fn lead<F: Field>(field: &F, word: &mut [u8])
 // A word becomes the leader of its line: the multiple whose first nonzero symbol is 1. A zero word stays zero.
 pub fn make_leader<F: Field>(field: &F, word: &mut [u8])
     ensures after { word.new ≡ times (F.Field.meaning field.now) (F.Field.inversion field.now (first_nonzero word.old)) word.old }
-    ensures leads { (c : LinearCode) → c.field ≡ F.Field.meaning field.now → Below c.field.order word.old → T (not (is_zero word.old)) → word.new ≡ leader-told c word.old }
+    ensures leads { (c : LinearCode) → c.field ≡ F.Field.meaning field.now → Below c.field.order word.old → T (not (is_zero word.old)) → word.new ≡ leader_told c word.old }
 {
     lead(field, word);
 }

@@ -1,6 +1,6 @@
 // The first coefficients, and the step from each to the next.
 ghost use Rattle.std.specs.Prelude.{◌≡◌, ◌≤◌};
-ghost use Rattle.theory.specs.Visits.{coefficients as coefficient-lists};
+ghost use Rattle.theory.specs.Visits.{coefficients as coefficient_lists};
 ghost use Rattle.choices.specs.Places.{StandsAt, Steps};
 ghost use Rattle.choices.specs.Coefficients.{codes_of, has_lists, FirstListOr, AllLists};
 
@@ -18,7 +18,7 @@ fn has_coefficients(q: u8, t: usize) -> bool
 // The coefficients that are all 1, which are the first.
 pub(crate) fn first_list(q: u8, t: usize) -> Coefficients
     requires { (2 ≤ q) × (1 ≤ t) × (t ≤ 32) }
-    ensures value { (result.q ≡ q) × (result.t ≡ t) × StandsAt (coefficient-lists q t) 0 (codes_of result) }
+    ensures value { (result.q ≡ q) × (result.t ≡ t) × StandsAt (coefficient_lists q t) 0 (codes_of result) }
 {
     Coefficients {
         codes: [1; 32],
@@ -48,7 +48,7 @@ impl Coefficients {
 
     // The step to the next coefficients; false, and nothing changes, at the last.
     pub fn step(&mut self) -> bool
-        ensures value { Steps (coefficient-lists self.old.q self.old.t) result (codes_of self.old) (codes_of self.new) }
+        ensures value { Steps (coefficient_lists self.old.q self.old.t) result (codes_of self.old) (codes_of self.new) }
         ensures same { (self.new.q ≡ self.old.q) × (self.new.t ≡ self.old.t) }
     {
         let mut codes = self.codes;
@@ -59,7 +59,7 @@ impl Coefficients {
 
     // Back to the first coefficients.
     pub fn restart(&mut self)
-        ensures after { StandsAt (coefficient-lists self.old.q self.old.t) 0 (codes_of self.new) }
+        ensures after { StandsAt (coefficient_lists self.old.q self.old.t) 0 (codes_of self.new) }
         ensures same { (self.new.q ≡ self.old.q) × (self.new.t ≡ self.old.t) }
     {
         *self = first_list(self.q, self.t);
