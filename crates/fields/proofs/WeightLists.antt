@@ -1,6 +1,9 @@
 -- Lists of weights without a fault, and the weight of a short word.
-use Rattle.std.proofs.Common.{◌≡◌, ℕ, zero, suc, ◌+◌, ◌*◌, ◌<◌, ◌≤◌, cond, ◌&&◌, eqb, ltb, leb, List, [], ◌∷◌, length, get_or, Some, None, sym, ap, ◌∙◌, ⊎_elim, le_of_suc-le-suc, not-suc-le-zero, add-one, arith}
+use Rattle.std.proofs.Common.{refl, ◌≡◌, ℕ, zero, suc, ◌+◌, ◌*◌, ◌<◌, ◌≤◌, Bool, not, cond, ◌&&◌, eqb, ltb, leb, List, [], ◌∷◌, length, get_or, position, Some, None, sym, ap, ◌∙◌, ⊎_elim, le_of_suc-le-suc, not-suc-le-zero, add-one, arith}
 use mathlib.Core.Path.{fun_ext}
+use Rattle.std.specs.List.{position_from}
+use Rattle.std.specs.Option.{option_map}
+use Rattle.std.proofs.lemmas.Iterator.Adapters.{position_from-zero}
 use Rattle.std.proofs.ByRecursion.{All-from_get_or, sum_by_le}
 use Rattle.std.proofs.lemmas.Bool.{cases_Bool, cases_lt, and_parts, leb-true, cond-true, cond-false, lt-ltb, le-ltb, eqb-true}
 use Rattle.fields.specs.declared.refusal.FieldRefusal.{FieldRefusal}
@@ -66,3 +69,19 @@ no_table_fault q ws e =
     (cases_Bool (eqb (length ws + 1) q)))
     (λ t. never_some OrderOutside (sym (cond-false (in_range q) _ _ t) ∙ e))
     (cases_Bool (in_range q))
+
+-- a weight outside 1 to 8
+abbrev pub outside : ℕ → Bool
+outside w = not (leb 1 w && leb w 8)
+
+-- the first fault of a list of weights is at the first weight outside 1 to 8
+fault_from : (a i : ℕ) (ws : List ℕ) → weight_fault (i + a) ws ≡ option_map (λ j. WeightOutside (j + a)) (position_from outside i ws)
+fault_from a i [] = refl
+fault_from a i (w ∷ ws) =
+    ⊎_elim
+    (λ t. rw (t) (ap (λ (n : ℕ). weight_fault n ws) (omega arith) ∙ fault_from a (i + 1) ws))
+    (λ t. rw (t) refl)
+    (cases_Bool (leb 1 w && leb w 8))
+
+pub fault_at_first : (a : ℕ) (ws : List ℕ) → weight_fault a ws ≡ option_map (λ j. WeightOutside (j + a)) (position outside ws)
+fault_at_first a ws = ap (λ (n : ℕ). weight_fault n ws) (omega arith) ∙ fault_from a 0 ws ∙ ap (option_map (λ j. WeightOutside (j + a))) (sym (position_from-zero outside ws))

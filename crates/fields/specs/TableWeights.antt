@@ -7,7 +7,7 @@ use Rattle.theory.specs.Meanings.{WeightMeaning}
 
 -- The weight that a table means.
 abbrev pub told : TableWeight → WeightMeaning
-told t = table_of t.q t.of
+told t = table_of t.q.value t.of
 
 -- Accepted, the table means the weight of order q with these weights of 1 to q - 1, and 0 for 0; refused, it is as it was.
 abbrev pub SetTo : {U : Type 0} → Result U FieldRefusal → ℕ → List ℕ → TableWeight → TableWeight → Type 0

@@ -7,40 +7,38 @@ ghost use Rattle.fields.specs.declared.refusal.FieldRefusal.TheVariants.{NotAPri
 ghost use Rattle.fields.specs.Modular.{prime_laws};
 
 use crate::field::Field;
+use crate::primes::Prime;
 use crate::refusal::FieldRefusal;
 
 // A prime field, by its prime. The reciprocal is 65,536 / p rounded up, which turns a division by p into a product and a shift.
 #[derive(Clone, Copy)]
 pub struct PrimeField {
-    p: u8,
+    p: Prime,
     reciprocal: u32,
-    ghost six: { is_prime p ≡ true },
-    ghost near: { reciprocal ≡ 65536 / p + 1 },
+    ghost near: { reciprocal ≡ 65536 / p.value + 1 },
 }
 
 impl PrimeField {
     // The field of order p, for the six primes below 16.
     pub fn new(p: u8) -> Result<PrimeField, FieldRefusal>
-        ensures value { MatchResult result (λ f. (is_prime p ≡ true) × (f.p ≡ p)) (λ e. (is_prime p ≡ false) × (e ≡ NotAPrime)) }
+        ensures value { MatchResult result (λ f. (is_prime p ≡ true) × (f.p.value ≡ p)) (λ e. (is_prime p ≡ false) × (e ≡ NotAPrime)) }
     {
-        match p {
-            2 | 3 | 5 | 7 | 11 | 13 => Ok(PrimeField {
-                p,
-                reciprocal: 65_536 / u32::from(p) + 1,
-            }),
-            _ => Err(FieldRefusal::NotAPrime),
-        }
+        let p = Prime::try_from(p)?;
+        Ok(PrimeField {
+            p,
+            reciprocal: 65_536 / u32::from(p.value) + 1,
+        })
     }
 
     // The remainder by p of the product of two codes.
     fn remainder(&self, x: u8, y: u8) -> u8
-        requires { (x < self.now.p) × (y < self.now.p) }
-        ensures value { result ≡ (x * y) % self.now.p }
-        ensures below { result < self.now.p }
+        requires { (x < self.now.p.value) × (y < self.now.p.value) }
+        ensures value { result ≡ (x * y) % self.now.p.value }
+        ensures below { result < self.now.p.value }
     {
         let n = u32::from(x) * u32::from(y);
         let quotient = (n * self.reciprocal) >> 16;
-        (n - quotient * u32::from(self.p)) as u8
+        (n - quotient * u32::from(self.p.value)) as u8
     }
 }
 
@@ -53,39 +51,43 @@ pub(crate) fn read_code(q: u8, a: u8) -> u8
 }
 
 impl Field for PrimeField {
-    ghost meaning = { λ f. prime f.p };
+    ghost meaning = { λ f. prime f.p.value };
 
-    ghost negation = { λ f. negation_of f.p };
+    ghost negation = { λ f. negation_of f.p.value };
 
-    ghost inversion = { λ f. inversion_of f.p };
+    ghost inversion = { λ f. inversion_of f.p.value };
 
-    ghost lawful = { λ f. prime_laws f.p f.six };
+    ghost lawful = { λ f. prime_laws f.p.value f.p.six };
 
     fn order(&self) -> u8 {
-        self.p
+        self.p.value
     }
 
     fn sum(&self, a: u8, b: u8) -> u8 {
-        let s = read_code(self.p, a) + read_code(self.p, b);
-        if s >= self.p { s - self.p } else { s }
+        let s = read_code(self.p.value, a) + read_code(self.p.value, b);
+        if s >= self.p.value {
+            s - self.p.value
+        } else {
+            s
+        }
     }
 
     fn product(&self, a: u8, b: u8) -> u8 {
-        self.remainder(read_code(self.p, a), read_code(self.p, b))
+        self.remainder(read_code(self.p.value, a), read_code(self.p.value, b))
     }
 
     fn negative(&self, a: u8) -> u8 {
-        let x = read_code(self.p, a);
-        if x == 0 { 0 } else { self.p - x }
+        let x = read_code(self.p.value, a);
+        if x == 0 { 0 } else { self.p.value - x }
     }
 
     fn inverse(&self, a: u8) -> u8 {
-        let x = read_code(self.p, a);
+        let x = read_code(self.p.value, a);
         if x == 0 {
             return 0;
         }
         let mut power: u8 = 1;
-        for _i in 0..self.p - 2 {
+        for _ in 0..self.p.value - 2 {
             power = self.remainder(power, x);
         }
         power

@@ -2,6 +2,9 @@
 ghost use Rattle.std.specs.Prelude.{◌≡◌};
 ghost use Rattle.fields.specs.Refusals.{number, place};
 
+use std::error::Error;
+use std::fmt;
+
 #[derive(Clone, Copy, PartialEq, Eq, Debug)]
 pub enum FieldRefusal {
     NotAPrime,
@@ -18,8 +21,7 @@ impl FieldRefusal {
         match self {
             FieldRefusal::NotAPrime => 1,
             FieldRefusal::OrderOutside => 2,
-            FieldRefusal::ListLength => 3,
-            FieldRefusal::WeightOutside { code: _ } => 3,
+            FieldRefusal::ListLength | FieldRefusal::WeightOutside { .. } => 3,
         }
     }
 
@@ -28,10 +30,16 @@ impl FieldRefusal {
         ensures value { result ≡ place self }
     {
         match self {
-            FieldRefusal::NotAPrime => 0,
-            FieldRefusal::OrderOutside => 0,
-            FieldRefusal::ListLength => 0,
             FieldRefusal::WeightOutside { code } => code,
+            _ => 0,
         }
     }
 }
+
+impl fmt::Display for FieldRefusal {
+    fn fmt<W: fmt::Write>(&self, f: &mut fmt::Formatter<W>) -> fmt::Result {
+        write!(f, "refused {} at {}", self.number(), self.place())
+    }
+}
+
+impl Error for FieldRefusal {}

@@ -1,16 +1,16 @@
 // Weights by a table of the caller's.
-ghost use Rattle.std.specs.Prelude.{◌≡◌, ℕ, ◌<◌, ◌≤◌, true, slice_index};
+ghost use Rattle.std.specs.Prelude.{◌≡◌, ℕ, ◌<◌, ◌≤◌, slice_index};
+
+use crate::order::Order;
 
 // The weights of the codes below q, by the code.
 #[derive(Clone, Copy)]
 pub struct TableWeight {
-    q: u8,
+    q: Order,
     of: [u8; 16],
-    ghost low: { 2 ≤ q },
-    ghost high: { q ≤ 16 },
     ghost zero: { slice_index of 0 ≡ 0 },
-    ghost positive: { ((a : ℕ) → 1 ≤ a → a < q → 1 ≤ slice_index of a) },
-    ghost bounded: { ((a : ℕ) → a < q → slice_index of a ≤ 8) },
+    ghost positive: { ((a : ℕ) → 1 ≤ a → a < q.value → 1 ≤ slice_index of a) },
+    ghost bounded: { ((a : ℕ) → a < q.value → slice_index of a ≤ 8) },
 }
 
 mod steps;

@@ -1,43 +1,47 @@
 // Sums and multiples of words, in place.
-ghost use Rattle.std.specs.Prelude.{◌≡◌, length, if◌then◌else◌, ◌==◌};
+ghost use Rattle.std.specs.Prelude.{◌≡◌, length, MatchBool, MatchResult, ◌==◌, true, false};
 ghost use Rattle.theory.specs.Codes.{plus, times};
 
 use crate::field::Field;
+use std::error::Error;
+use std::fmt;
 
-// The loop of `multiply`.
-fn multiply_symbols<F: Field>(field: &F, factor: u8, word: &mut [u8])
-    ensures after { word.new ≡ times (F.Field.meaning field.now) factor word.old }
-{
-    for i in 0..word.len() {
-        word[i] = field.product(factor, word[i]);
+// Two words that were to be added have different lengths.
+#[derive(Clone, Copy, PartialEq, Eq, Debug)]
+pub struct LengthsDiffer;
+
+impl fmt::Display for LengthsDiffer {
+    fn fmt<W: fmt::Write>(&self, f: &mut fmt::Formatter<W>) -> fmt::Result {
+        f.write_str("words of different lengths")
     }
 }
 
-// The loop of `add_multiple`.
-fn add_symbols<F: Field>(field: &F, factor: u8, source: &[u8], target: &mut [u8])
-    requires { length source.now ≡ length target.old }
-    ensures after { target.new ≡ plus (F.Field.meaning field.now) target.old (times (F.Field.meaning field.now) factor source.now) }
-{
-    for i in 0..target.len() {
-        target[i] = field.sum(target[i], field.product(factor, source[i]));
-    }
-}
+impl Error for LengthsDiffer {}
 
 // A word becomes its multiple by a code.
 pub fn multiply<F: Field>(field: &F, factor: u8, word: &mut [u8])
     ensures after { word.new ≡ times (F.Field.meaning field.now) factor word.old }
 {
-    multiply_symbols(field, factor, word);
+    for a in word.iter_mut() {
+        *a = field.product(factor, *a);
+    }
 }
 
-// A word gains a multiple of another one of the same length; false, and nothing changes, if their lengths differ.
-pub fn add_multiple<F: Field>(field: &F, factor: u8, source: &[u8], target: &mut [u8]) -> bool
-    ensures value { result ≡ (length source.now == length target.old) }
-    ensures after { target.new ≡ (if result then plus (F.Field.meaning field.now) target.old (times (F.Field.meaning field.now) factor source.now) else target.old) }
+// A word gains a multiple of another one of the same length, or nothing changes.
+pub fn add_multiple<F: Field>(
+    field: &F,
+    factor: u8,
+    source: &[u8],
+    target: &mut [u8],
+) -> Result<(), LengthsDiffer>
+    ensures after { MatchResult result (λ _. (length source.now ≡ length target.old) × (target.new ≡ plus (F.Field.meaning field.now) target.old (times (F.Field.meaning field.now) factor source.now))) (λ _. ((length source.now == length target.old) ≡ false) × (target.new ≡ target.old)) }
 {
     if source.len() != target.len() {
-        return false;
+        return Err(LengthsDiffer);
     }
-    add_symbols(field, factor, source, target);
-    true
+    // What a loop over `iter_mut` with `zip` writes is not known to the check, so the target is indexed.
+    for (i, s) in source.iter().enumerate() {
+        target[i] = field.sum(target[i], field.product(factor, *s));
+    }
+    Ok(())
 }

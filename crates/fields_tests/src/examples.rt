@@ -1,7 +1,8 @@
 // Examples of fields, weights and their refusals.
 use crate::renamed::RenamedFive;
 use fields::{
-    Field, FieldRefusal, Gf4, Hamming, Lee, PrimeField, SymbolWeight, TableWeight, word_weight,
+    Field, FieldRefusal, Gf4, Hamming, Lee, LengthsDiffer, PrimeField, SymbolWeight, TableWeight,
+    add_multiple, multiply, word_weight,
 };
 use std::test::Fail;
 
@@ -40,5 +41,21 @@ fn weights(rt: HostRuntime) -> Result<(), Fail> {
     assert_eq!(rt; word_weight(&Hamming::new(5)?, &word[..]), 4);
     assert_eq!(rt; word_weight(&Lee::new(5)?, &word[..]), 6);
     assert_eq!(rt; Lee::new(13)?.top(), 6);
+    Ok(())
+}
+
+#[test]
+fn multiples_of_words(rt: HostRuntime) -> Result<(), Fail> {
+    let five = PrimeField::new(5)?;
+    let mut word = [1, 2, 4];
+    multiply(&five, 3, &mut word[..]);
+    assert!(rt; word == [3, 1, 2]);
+    add_multiple(&five, 2, &[1, 1, 1], &mut word[..])?;
+    assert!(rt; word == [0, 3, 4]);
+    assert_eq!(rt;
+        add_multiple(&five, 2, &[1, 1], &mut word[..]),
+        Err(LengthsDiffer)
+    );
+    assert!(rt; word == [0, 3, 4]);
     Ok(())
 }

@@ -1,10 +1,11 @@
 // What a table of weights does.
-ghost use Rattle.std.specs.Prelude.{◌≡◌, ℕ, ◌+◌, ◌<◌, ◌≤◌, ◌&&◌, [], ◌∷◌, length, Some, None, MatchResult, nat_le, slice_index};
+ghost use Rattle.std.specs.Prelude.{◌≡◌, ℕ, ◌+◌, ◌<◌, ◌≤◌, ◌&&◌, [], ◌∷◌, length, not, Some, None, MatchResult, nat_le, position, slice_index};
 ghost use Rattle.fields.specs.Tables.{table_of, weight_fault, table_fault};
 ghost use Rattle.fields.specs.TableWeights.{told, SetTo};
 ghost use Rattle.fields.specs.Weights.{table_laws};
 
 use super::TableWeight;
+use crate::order::Order;
 use crate::refusal::FieldRefusal;
 use crate::weight::SymbolWeight;
 
@@ -16,7 +17,7 @@ impl TableWeight {
     pub fn binary() -> TableWeight
         ensures value { told result ≡ table_of 2 (0 ∷ 1 ∷ []) }
     {
-        filled(2, &[1])
+        filled(Order { value: 2 }, &[1])
     }
 
     // Takes an order and the weights of the codes 1 to q - 1, or leaves the table as it was.
@@ -24,31 +25,27 @@ impl TableWeight {
         ensures value { MatchResult result (λ _. table_fault q weights.now ≡ None) (λ e. table_fault q weights.now ≡ Some e) }
         ensures after { SetTo result q weights.now self.old self.new }
     {
-        if let Some(fault) = table_fault(q, weights) {
-            return Err(fault);
-        }
-        *self = filled(q, weights);
+        *self = listed(q, weights)?;
         Ok(())
     }
 }
 
-// The first fault of an order and a list of weights.
-fn table_fault(q: u8, weights: &[u8]) -> Option<FieldRefusal>
-    ensures value { result ≡ table_fault q weights.now }
+// The table of an order and the weights of the codes 1 to q - 1, or its first fault.
+fn listed(q: u8, weights: &[u8]) -> Result<TableWeight, FieldRefusal>
+    ensures value { MatchResult result (λ table. (table_fault q weights.now ≡ None) × (told table ≡ table_of q (0 ∷ weights.now))) (λ e. table_fault q weights.now ≡ Some e) }
 {
-    if q < 2 || q > 16 {
-        return Some(FieldRefusal::OrderOutside);
-    }
+    let order = Order::try_from(q)?;
     if weights.len() != usize::from(q) - 1 {
-        return Some(FieldRefusal::ListLength);
+        return Err(FieldRefusal::ListLength);
     }
-    first_fault(weights)
+    check_weights(weights)?;
+    Ok(filled(order, weights))
 }
 
-// The table of order q with these weights of the codes from 1 on.
-fn filled(q: u8, weights: &[u8]) -> TableWeight
-    requires { table_fault q weights.now ≡ None }
-    ensures value { told result ≡ table_of q (0 ∷ weights.now) }
+// The table of an order with these weights of the codes from 1 on.
+fn filled(q: Order, weights: &[u8]) -> TableWeight
+    requires { table_fault q.value weights.now ≡ None }
+    ensures value { told result ≡ table_of q.value (0 ∷ weights.now) }
 {
     let of = shifted(weights);
     TableWeight { q, of }
@@ -61,17 +58,22 @@ fn is_weight(w: u8) -> bool
     1 <= w && w <= TOP
 }
 
-// The first weight outside 1 to 8, at its code.
-fn first_fault(weights: &[u8]) -> Option<FieldRefusal>
-    requires { length weights.now ≤ 15 }
-    ensures value { result ≡ weight_fault 1 weights.now }
+// The place of the first weight outside 1 to 8.
+fn first_outside(weights: &[u8]) -> Option<usize>
+    ensures value { result ≡ position (λ w. not (nat_le 1 w && nat_le w 8)) weights.now }
 {
-    for (i, w) in weights.iter().enumerate() {
-        if !is_weight(*w) {
-            return Some(FieldRefusal::WeightOutside { code: i as u8 + 1 });
-        }
+    weights.iter().position(|w| !is_weight(*w))
+}
+
+// Tests that each weight is from 1 to 8; the first that is not is refused at its code.
+fn check_weights(weights: &[u8]) -> Result<(), FieldRefusal>
+    requires { length weights.now ≤ 15 }
+    ensures value { MatchResult result (λ _. weight_fault 1 weights.now ≡ None) (λ e. weight_fault 1 weights.now ≡ Some e) }
+{
+    match first_outside(weights) {
+        Some(i) => Err(FieldRefusal::WeightOutside { code: i as u8 + 1 }),
+        None => Ok(()),
     }
-    None
 }
 
 // The weights by their code: 0 for 0, then those of the list.
@@ -81,19 +83,17 @@ fn shifted(weights: &[u8]) -> [u8; 16]
     ensures rest { (i : ℕ) → i < length weights.now → slice_index result (i + 1) ≡ slice_index weights.now i }
 {
     let mut of = [0u8; 16];
-    for (i, w) in weights.iter().enumerate() {
-        of[i + 1] = *w;
-    }
+    of[1..=weights.len()].copy_from_slice(weights);
     of
 }
 
 impl SymbolWeight for TableWeight {
-    ghost meaning = { λ t. table_of t.q t.of };
+    ghost meaning = { λ t. table_of t.q.value t.of };
 
-    ghost lawful = { λ t. table_laws t.q t.of t.low t.high t.zero t.positive t.bounded };
+    ghost lawful = { λ t. table_laws t.q.value t.of t.q.low t.q.high t.zero t.positive t.bounded };
 
     fn order(&self) -> u8 {
-        self.q
+        self.q.value
     }
 
     fn top(&self) -> u8 {
@@ -101,7 +101,7 @@ impl SymbolWeight for TableWeight {
     }
 
     fn weight(&self, a: u8) -> u8 {
-        if a < self.q {
+        if a < self.q.value {
             self.of[usize::from(a)]
         } else {
             0

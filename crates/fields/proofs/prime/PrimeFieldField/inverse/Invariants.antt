@@ -2,5 +2,5 @@
 use Rattle.std.proofs.Common.{◌≡◌, ◌%◌, ◌^◌, ◌<◌}
 use Rattle.fields.proofs.prime.PrimeFieldField.inverse.Given as goal
 
-abbrev pub invariant-loop-i : goal.invariant-loop-i
-invariant-loop-i l = (l.power ≡ (l.x ^ l._i) % l.self.p) × (l.power < l.self.p)
+abbrev pub invariant-loop : goal.invariant-loop
+invariant-loop l = (l.power ≡ (l.x ^ l.counter) % l.self.p.value) × (l.power < l.self.p.value)
