@@ -5,6 +5,7 @@ pub mod Clearing
 pub mod Pivoting
 pub mod RowTest
 pub mod Picking
+pub mod Ranges
 pub mod RowLists
 pub mod Marks
 pub mod UsedColumns

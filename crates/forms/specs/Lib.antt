@@ -1,4 +1,5 @@
 pub mod Matrices
+pub mod Shapes
 pub mod RowSteps
 pub mod Elimination
 pub mod ColumnMarks

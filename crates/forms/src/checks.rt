@@ -1,36 +1,37 @@
 // What a matrix is refused for.
-ghost use Rattle.std.specs.Prelude.{◌≡◌, ◌*◌, ◌≤◌, length, None, OnOk};
-ghost use Rattle.theory.specs.Facts.{Matrix, Independent};
-ghost use Rattle.forms.specs.Matrices.{rows_of};
-ghost use Rattle.forms.specs.Refusals.{first_no_code, first_dependent_row, matrix_fault, forms_fault, told, ScratchAfter};
+ghost use Rattle.std.specs.Prelude.{◌≡◌, ◌*◌, ◌≤◌, length, position, nat_le, Some, None, IfOk, OnOk, MatchResult};
+ghost use Rattle.forms.specs.Refusals.{first_no_code, first_dependent_row, matrix_fault, forms_fault, ScratchAfter};
 
+use crate::generator::{CodeMatrix, GeneratorMatrix};
+use crate::matrix::{MatrixMut, MatrixView};
 use crate::refusal::FormsRefusal;
-use crate::row_test::first_dependent;
 use fields::Field;
+
+// The place of the first number that is q or more.
+fn first_from(codes: &[u8], q: u8) -> Option<usize>
+    ensures value { result ≡ position (λ c. nat_le q c) codes.now }
+{
+    codes.iter().position(|c| *c >= q)
+}
 
 // The index of the first number that is no code of a field of order q.
 fn first_no_code(codes: &[u8], q: u8) -> Option<usize>
     ensures value { result ≡ first_no_code q codes.now }
 {
-    for (i, c) in codes.iter().enumerate() {
-        if *c >= q {
-            return Some(i);
-        }
-    }
-    None
+    first_from(codes, q)
 }
 
 // Tests all but the independence of the rows.
-pub(crate) fn check_matrix<F: Field>(
-    field: &F,
-    codes: &[u8],
+pub(crate) fn check_matrix<'a, F: Field>(
+    field: &'a F,
+    codes: &'a [u8],
     k: usize,
     n: usize,
     scratch: usize,
-) -> Result<(), FormsRefusal>
-    ensures value { result ≡ told (matrix_fault (F.Field.meaning field.now) k n codes.now scratch) tt }
-    ensures shape { OnOk result ((n ≤ 64) × (k ≤ 32) × (length codes.now ≡ k * n) × (2 * (k * n) ≤ scratch)) }
-    ensures matrix { OnOk result (Matrix (F.Field.meaning field.now) n (rows_of k n codes.now)) }
+) -> Result<CodeMatrix<'a, F>, FormsRefusal>
+    ensures value { MatchResult result (λ _. matrix_fault (F.Field.meaning field.now) k n codes.now scratch ≡ None) (λ e. matrix_fault (F.Field.meaning field.now) k n codes.now scratch ≡ Some e) }
+    ensures matrix { IfOk result (λ m. (m.field.now ≡ field.now) × (m.matrix.codes.now ≡ codes.now) × (m.matrix.k ≡ k) × (m.matrix.n ≡ n)) }
+    ensures room { OnOk result (2 * (k * n) ≤ scratch) }
 {
     if k < 1 || k > 32 || n < k || n > 64 {
         return Err(FormsRefusal::Shape);
@@ -44,44 +45,42 @@ pub(crate) fn check_matrix<F: Field>(
     if scratch < 2 * (k * n) {
         return Err(FormsRefusal::Scratch);
     }
-    Ok(())
+    Ok(CodeMatrix {
+        field,
+        matrix: MatrixView { codes, k, n },
+    })
 }
 
-// The first dependent row of a matrix that has passed, told by an elimination in scratch.
-pub(crate) fn dependent_row<F: Field>(
-    field: &F,
-    codes: &[u8],
-    k: usize,
-    n: usize,
-    scratch: &mut [u8],
-) -> Option<usize>
-    requires shape { (n ≤ 64) × (length codes.now ≡ k * n) × (2 * (k * n) ≤ length scratch.old) }
-    requires matrix { Matrix (F.Field.meaning field.now) n (rows_of k n codes.now) }
-    ensures value { result ≡ first_dependent_row (F.Field.meaning field.now) k n codes.now }
-    ensures scratch { ScratchAfter k n None scratch.old scratch.new }
-{
-    let part = &mut scratch[..k * n];
-    part.copy_from_slice(codes);
-    first_dependent(field, part, k, n)
+impl<'a, F: Field> CodeMatrix<'a, F> {
+    // The first dependent row, told by an elimination in scratch.
+    pub(crate) fn dependent_row(&self, scratch: &mut [u8]) -> Option<usize>
+        requires { 2 * (self.now.matrix.k * self.now.matrix.n) ≤ length scratch.old }
+        ensures value { result ≡ first_dependent_row (F.Field.meaning self.now.field.now) self.now.matrix.k self.now.matrix.n self.now.matrix.codes.now }
+        ensures scratch { ScratchAfter self.now.matrix.k self.now.matrix.n None scratch.old scratch.new }
+    {
+        let MatrixView { codes, k, n } = self.matrix;
+        let part = &mut scratch[..k * n];
+        part.copy_from_slice(codes);
+        let mut copy = MatrixMut { codes: part, k, n };
+        copy.first_dependent(self.field)
+    }
 }
 
 // Tests the rows too.
-pub(crate) fn check_rows<F: Field>(
-    field: &F,
-    codes: &[u8],
+pub(crate) fn check_rows<'a, F: Field>(
+    field: &'a F,
+    codes: &'a [u8],
     k: usize,
     n: usize,
     scratch: &mut [u8],
-) -> Result<(), FormsRefusal>
-    ensures value { result ≡ told (forms_fault (F.Field.meaning field.now) k n codes.now (length scratch.old)) tt }
+) -> Result<GeneratorMatrix<'a, F>, FormsRefusal>
+    ensures value { MatchResult result (λ _. forms_fault (F.Field.meaning field.now) k n codes.now (length scratch.old) ≡ None) (λ e. forms_fault (F.Field.meaning field.now) k n codes.now (length scratch.old) ≡ Some e) }
     ensures scratch { ScratchAfter k n (matrix_fault (F.Field.meaning field.now) k n codes.now (length scratch.old)) scratch.old scratch.new }
-    ensures shape { OnOk result ((n ≤ 64) × (k ≤ 32) × (length codes.now ≡ k * n)) }
-    ensures matrix { OnOk result (Matrix (F.Field.meaning field.now) n (rows_of k n codes.now)) }
-    ensures independent { OnOk result (Independent (F.Field.meaning field.now) n (rows_of k n codes.now)) }
+    ensures matrix { IfOk result (λ g. (g.rows.field.now ≡ field.now) × (g.rows.matrix.codes.now ≡ codes.now) × (g.rows.matrix.k ≡ k) × (g.rows.matrix.n ≡ n)) }
 {
-    check_matrix(field, codes, k, n, scratch.len())?;
-    match dependent_row(field, codes, k, n, scratch) {
+    let rows = check_matrix(field, codes, k, n, scratch.len())?;
+    match rows.dependent_row(scratch) {
         Some(row) => Err(FormsRefusal::DependentRow { row }),
-        None => Ok(()),
+        None => Ok(GeneratorMatrix { rows }),
     }
 }

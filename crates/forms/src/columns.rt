@@ -1,11 +1,11 @@
 // The order in which a form goes through the columns, and the marks of those that are used.
-ghost use Rattle.std.specs.Prelude.{◌≡◌, ℕ, ◌+◌, ◌*◌, ◌<◌, ◌≤◌, Bool, not, ◌++◌, length, take, if◌then◌else◌, filter};
+ghost use Rattle.std.specs.Prelude.{◌≡◌, ℕ, ◌+◌, ◌<◌, ◌≤◌, Bool, not, ◌++◌, length, take, if◌then◌else◌, filter};
 ghost use Rattle.std.specs.List.{range_with_len, AllByRecursion};
 ghost use Rattle.theory.specs.Forms.{among};
 ghost use Rattle.forms.specs.Matrices.{rows_of};
 ghost use Rattle.forms.specs.ColumnMarks.{marked, column_order, has_open};
 
-use crate::row_steps::pivot_row;
+use crate::matrix::MatrixView;
 
 // Whether a column is marked, or not, as asked.
 fn is_wanted(marks: &[bool; 64], c: usize, wanted: bool) -> bool
@@ -82,12 +82,12 @@ pub(crate) fn mark(marks: &mut [bool; 64], positions: &[u8])
 }
 
 // Whether some column that is not marked is not zero.
-pub(crate) fn has_open_column(codes: &[u8], k: usize, n: usize, marks: &[bool; 64]) -> bool
-    requires { (n ≤ 64) × (length codes.now ≡ k * n) }
-    ensures value { result ≡ has_open n (rows_of k n codes.now) marks.now }
+pub(crate) fn has_open_column(matrix: &MatrixView<'_>, marks: &[bool; 64]) -> bool
+    requires { matrix.now.n ≤ 64 }
+    ensures value { result ≡ has_open matrix.now.n (rows_of matrix.now.k matrix.now.n matrix.now.codes.now) marks.now }
 {
-    for c in 0..n {
-        if !marks[c] && pivot_row(codes, k, n, 0, c).is_some() {
+    for c in 0..matrix.n {
+        if !marks[c] && matrix.pivot_row(0, c).is_some() {
             return true;
         }
     }

@@ -8,3 +8,12 @@ pub struct Form {
     pub rank: usize,
     pub rows: [u8; 2048],
 }
+
+impl Form {
+    // What a place for a form holds before one is made.
+    pub const EMPTY: Form = Form {
+        positions: [0; 32],
+        rank: 0,
+        rows: [0; 2048],
+    };
+}

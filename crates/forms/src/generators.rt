@@ -1,6 +1,5 @@
 // Dependent rows and generator forms of a matrix, for any caller.
-ghost use Rattle.std.specs.Prelude.{◌≡◌, ◌*◌, ◌≤◌, ◌++◌, map, length, drop, is_some, if◌then◌else◌, OnOk};
-ghost use Rattle.theory.specs.Facts.{Matrix, Independent};
+ghost use Rattle.std.specs.Prelude.{◌≡◌, ◌++◌, map, length, drop, is_some, if◌then◌else◌, OnOk};
 ghost use Rattle.theory.specs.Forms.{form as form_told, forms as forms_told};
 ghost use Rattle.forms.specs.Matrices.{rows_of};
 ghost use Rattle.forms.specs.ColumnMarks.{marked_columns};
@@ -8,9 +7,8 @@ ghost use Rattle.forms.specs.FormRecords.{record_of};
 ghost use Rattle.forms.specs.Refusals.{first_dependent_row, matrix_fault, forms_fault, told, ScratchAfter};
 ghost use Rattle.forms.specs.Systematic.{FormsAreSystematic};
 
-use crate::checks::{check_matrix, check_rows, dependent_row};
+use crate::checks::{check_matrix, check_rows};
 use crate::form::Form;
-use crate::making::{all_forms, form_with};
 use crate::refusal::FormsRefusal;
 use fields::Field;
 
@@ -25,18 +23,8 @@ pub fn first_dependent_row<F: Field>(
     ensures value { result ≡ told (matrix_fault (F.Field.meaning field.now) k n codes.now (length scratch.old)) (first_dependent_row (F.Field.meaning field.now) k n codes.now) }
     ensures scratch { ScratchAfter k n (matrix_fault (F.Field.meaning field.now) k n codes.now (length scratch.old)) scratch.old scratch.new }
 {
-    check_matrix(field, codes, k, n, scratch.len())?;
-    Ok(dependent_row(field, codes, k, n, scratch))
-}
-
-// The form of a matrix when the marked columns are used.
-fn marked_form<F: Field>(field: &F, codes: &[u8], k: usize, n: usize, used: &[bool; 64]) -> Form
-    requires shape { (n ≤ 64) × (k ≤ 32) × (length codes.now ≡ k * n) }
-    requires matrix { Matrix (F.Field.meaning field.now) n (rows_of k n codes.now) }
-    requires independent { Independent (F.Field.meaning field.now) n (rows_of k n codes.now) }
-    ensures value { result ≡ record_of (form_told (F.Field.meaning field.now) n (rows_of k n codes.now) (marked_columns n used.now)) }
-{
-    form_with(field, codes, k, n, used)
+    let matrix = check_matrix(field, codes, k, n, scratch.len())?;
+    Ok(matrix.dependent_row(scratch))
 }
 
 // The form of a matrix when the marked columns are used, into a place that the caller lends; a refusal leaves that as it was.
@@ -53,8 +41,7 @@ pub fn make_form<F: Field>(
     ensures after { form.new ≡ (if is_some (forms_fault (F.Field.meaning field.now) k n codes.now (length scratch.old)) then form.old else record_of (form_told (F.Field.meaning field.now) n (rows_of k n codes.now) (marked_columns n used.now))) }
     ensures scratch { ScratchAfter k n (matrix_fault (F.Field.meaning field.now) k n codes.now (length scratch.old)) scratch.old scratch.new }
 {
-    check_rows(field, codes, k, n, scratch)?;
-    *form = marked_form(field, codes, k, n, used);
+    *form = check_rows(field, codes, k, n, scratch)?.form(used);
     Ok(())
 }
 
@@ -72,6 +59,5 @@ pub fn make_forms<F: Field>(
     ensures scratch { ScratchAfter k n (matrix_fault (F.Field.meaning field.now) k n codes.now (length scratch.old)) scratch.old scratch.new }
     ensures systematic { OnOk result (FormsAreSystematic (F.Field.meaning field.now) n (rows_of k n codes.now)) }
 {
-    check_rows(field, codes, k, n, scratch)?;
-    Ok(all_forms(field, codes, k, n, forms))
+    Ok(check_rows(field, codes, k, n, scratch)?.forms(forms))
 }

@@ -1,65 +1,57 @@
 // The steps of an elimination for any caller: a step that does not fit its matrix is refused and changes nothing.
-ghost use Rattle.std.specs.Prelude.{◌≡◌, ℕ, ◌<◌, true, false, MatchBool, ◌≢◌};
+ghost use Rattle.std.specs.Prelude.{◌≡◌, ℕ, ◌<◌, Some, None, MatchResult, OnOk, ◌≢◌};
 ghost use Rattle.theory.specs.Meanings.{FieldMeaning, FieldLaws};
 ghost use Rattle.theory.specs.Facts.{Matrix};
 ghost use Rattle.forms.specs.Matrices.{rows_of, symbol_at};
 ghost use Rattle.forms.specs.RowSteps.{Exchanged, Scaled, Cleared};
-ghost use Rattle.forms.specs.MatrixSteps.{has_row, both_rows, has_pivot, clearable, KeepsCode};
+ghost use Rattle.forms.specs.MatrixSteps.{row_fault, pivot_fault, swap_fault, clear_fault, KeepsCode};
 
-use crate::row_steps;
+use crate::matrix::{MatrixMut, MatrixView};
+use crate::step_refusal::StepRefusal;
 use fields::Field;
 
-// Whether the codes are k rows of n codes, of which i is one.
-fn is_row(codes: &[u8], k: usize, n: usize, i: usize) -> bool
-    ensures value { result ≡ has_row k n codes.now i }
+// Tests that the codes are k rows of n codes, of which i is one.
+fn check_row(codes: &[u8], k: usize, n: usize, i: usize) -> Result<(), StepRefusal>
+    ensures value { MatchResult result (λ _. row_fault k n codes.now i ≡ None) (λ e. row_fault k n codes.now i ≡ Some e) }
 {
     match k.checked_mul(n) {
-        Some(size) => size == codes.len() && i < k,
-        None => false,
+        Some(size) if size == codes.len() && i < k => Ok(()),
+        _ => Err(StepRefusal::NoRow),
     }
 }
 
-// Whether the codes are k rows of n codes, and row i has a nonzero symbol in the column.
-fn is_pivot(codes: &[u8], k: usize, n: usize, i: usize, column: usize) -> bool
-    ensures value { result ≡ has_pivot k n codes.now i column }
+// Tests that the codes are k rows of n codes, and that row i has a nonzero symbol in the column.
+fn check_pivot(codes: &[u8], k: usize, n: usize, i: usize, column: usize) -> Result<(), StepRefusal>
+    ensures value { MatchResult result (λ _. pivot_fault k n codes.now i column ≡ None) (λ e. pivot_fault k n codes.now i column ≡ Some e) }
 {
-    is_row(codes, k, n, i) && column < n && row_steps::symbol(codes, n, i, column) != 0
-}
-
-// Two rows of a matrix of k rows change places.
-fn exchange(codes: &mut [u8], k: usize, n: usize, i: usize, j: usize)
-    requires { both_rows k n codes.old i j ≡ true }
-    ensures after { Exchanged n codes.old i j codes.new }
-    ensures code { (f : FieldMeaning) (negative inverse : ℕ → ℕ) → FieldLaws f negative inverse → KeepsCode f n (rows_of k n codes.old) (rows_of k n codes.new) }
-{
-    row_steps::exchange_rows(codes, n, i, j);
-}
-
-// Two rows change places; false, and nothing changes, if there are no such rows.
-pub fn swap_rows(codes: &mut [u8], k: usize, n: usize, i: usize, j: usize) -> bool
-    ensures value { result ≡ both_rows k n codes.old i j }
-    ensures after { MatchBool result (Exchanged n codes.old i j codes.new) (codes.new ≡ codes.old) }
-    ensures code { (f : FieldMeaning) (negative inverse : ℕ → ℕ) → FieldLaws f negative inverse → KeepsCode f n (rows_of k n codes.old) (rows_of k n codes.new) }
-{
-    if !is_row(codes, k, n, i) || !is_row(codes, k, n, j) {
-        return false;
+    check_row(codes, k, n, i)?;
+    let matrix = MatrixView { codes, k, n };
+    if column < n && matrix.symbol(i, column) != 0 {
+        Ok(())
+    } else {
+        Err(StepRefusal::NoPivot)
     }
-    exchange(codes, k, n, i, j);
-    true
 }
 
-// A row of a matrix of k rows is divided by its symbol in the column, which is not 0.
-fn scale_to_one<F: Field>(field: &F, codes: &mut [u8], k: usize, n: usize, i: usize, column: usize)
-    requires { has_pivot k n codes.old i column ≡ true }
-    ensures after { Scaled (F.Field.meaning field.now) n codes.old i (F.Field.inversion field.now (symbol_at n codes.old i column)) codes.new }
-    ensures one { Matrix (F.Field.meaning field.now) n (rows_of k n codes.old) → symbol_at n codes.new i column ≡ 1 }
-    ensures code { KeepsCode (F.Field.meaning field.now) n (rows_of k n codes.old) (rows_of k n codes.new) }
+// Two rows change places; a row that is not there is refused.
+pub fn swap_rows(
+    codes: &mut [u8],
+    k: usize,
+    n: usize,
+    i: usize,
+    j: usize,
+) -> Result<(), StepRefusal>
+    ensures value { MatchResult result (λ _. swap_fault k n codes.old i j ≡ None) (λ e. swap_fault k n codes.old i j ≡ Some e) }
+    ensures after { MatchResult result (λ _. Exchanged n codes.old i j codes.new) (λ _. codes.new ≡ codes.old) }
+    ensures code { (f : FieldMeaning) (negative inverse : ℕ → ℕ) → FieldLaws f negative inverse → KeepsCode f n (rows_of k n codes.old) (rows_of k n codes.new) }
 {
-    let inverse = row_steps::inverse_at(field, codes, n, i, column);
-    row_steps::scale_row(field, codes, n, i, inverse);
+    check_row(codes, k, n, i)?;
+    check_row(codes, k, n, j)?;
+    MatrixMut { codes, k, n }.exchange_rows(i, j);
+    Ok(())
 }
 
-// A row is scaled so that it has 1 in the column; false, and nothing changes, if it has 0 there or there is no such row or column.
+// A row is scaled so that it has 1 in the column; one that is 0 there, or a row or column that is not there, is refused.
 pub fn scale_row<F: Field>(
     field: &F,
     codes: &mut [u8],
@@ -67,30 +59,18 @@ pub fn scale_row<F: Field>(
     n: usize,
     i: usize,
     column: usize,
-) -> bool
-    ensures value { result ≡ has_pivot k n codes.old i column }
-    ensures after { MatchBool result (Scaled (F.Field.meaning field.now) n codes.old i (F.Field.inversion field.now (symbol_at n codes.old i column)) codes.new) (codes.new ≡ codes.old) }
-    ensures one { result ≡ true → Matrix (F.Field.meaning field.now) n (rows_of k n codes.old) → symbol_at n codes.new i column ≡ 1 }
+) -> Result<(), StepRefusal>
+    ensures value { MatchResult result (λ _. pivot_fault k n codes.old i column ≡ None) (λ e. pivot_fault k n codes.old i column ≡ Some e) }
+    ensures after { MatchResult result (λ _. Scaled (F.Field.meaning field.now) n codes.old i (F.Field.inversion field.now (symbol_at n codes.old i column)) codes.new) (λ _. codes.new ≡ codes.old) }
+    ensures one { OnOk result (Matrix (F.Field.meaning field.now) n (rows_of k n codes.old) → symbol_at n codes.new i column ≡ 1) }
     ensures code { KeepsCode (F.Field.meaning field.now) n (rows_of k n codes.old) (rows_of k n codes.new) }
 {
-    if !is_pivot(codes, k, n, i, column) {
-        return false;
-    }
-    scale_to_one(field, codes, k, n, i, column);
-    true
+    check_pivot(codes, k, n, i, column)?;
+    MatrixMut { codes, k, n }.scale_to_one(field, i, column);
+    Ok(())
 }
 
-// Every row of a matrix but the pivot loses the multiple of the pivot row that leaves 0 in the column, where the pivot row is not 0.
-fn clear<F: Field>(field: &F, codes: &mut [u8], k: usize, n: usize, pivot: usize, column: usize)
-    requires { clearable k n codes.old pivot column ≡ true }
-    ensures after { Cleared (F.Field.meaning field.now) (F.Field.negation field.now) (F.Field.inversion field.now) k n codes.old pivot column codes.new }
-    ensures zeros { Matrix (F.Field.meaning field.now) n (rows_of k n codes.old) → (i : ℕ) → i < k → (i ≢ pivot) → symbol_at n codes.new i column ≡ 0 }
-    ensures code { KeepsCode (F.Field.meaning field.now) n (rows_of k n codes.old) (rows_of k n codes.new) }
-{
-    row_steps::clear_rows(field, codes, k, n, pivot, column);
-}
-
-// Every row but the pivot loses the multiple of the pivot row that leaves 0 in the column; false, and nothing changes, if the pivot row has 0 there, there is no such row or column, or n is above 64.
+// Every row but the pivot loses the multiple of the pivot row that leaves 0 in the column; more than 64 columns, a pivot row that is 0 there, or a row or column that is not there, are refused.
 pub fn clear_column<F: Field>(
     field: &F,
     codes: &mut [u8],
@@ -98,15 +78,16 @@ pub fn clear_column<F: Field>(
     n: usize,
     pivot: usize,
     column: usize,
-) -> bool
-    ensures value { result ≡ clearable k n codes.old pivot column }
-    ensures after { MatchBool result (Cleared (F.Field.meaning field.now) (F.Field.negation field.now) (F.Field.inversion field.now) k n codes.old pivot column codes.new) (codes.new ≡ codes.old) }
-    ensures zeros { result ≡ true → Matrix (F.Field.meaning field.now) n (rows_of k n codes.old) → (i : ℕ) → i < k → (i ≢ pivot) → symbol_at n codes.new i column ≡ 0 }
+) -> Result<(), StepRefusal>
+    ensures value { MatchResult result (λ _. clear_fault k n codes.old pivot column ≡ None) (λ e. clear_fault k n codes.old pivot column ≡ Some e) }
+    ensures after { MatchResult result (λ _. Cleared (F.Field.meaning field.now) (F.Field.negation field.now) (F.Field.inversion field.now) k n codes.old pivot column codes.new) (λ _. codes.new ≡ codes.old) }
+    ensures zeros { OnOk result (Matrix (F.Field.meaning field.now) n (rows_of k n codes.old) → (i : ℕ) → i < k → (i ≢ pivot) → symbol_at n codes.new i column ≡ 0) }
     ensures code { KeepsCode (F.Field.meaning field.now) n (rows_of k n codes.old) (rows_of k n codes.new) }
 {
-    if n > 64 || !is_pivot(codes, k, n, pivot, column) {
-        return false;
+    if n > 64 {
+        return Err(StepRefusal::TooWide);
     }
-    clear(field, codes, k, n, pivot, column);
-    true
+    check_pivot(codes, k, n, pivot, column)?;
+    MatrixMut { codes, k, n }.clear_rows(field, pivot, column);
+    Ok(())
 }

@@ -2,6 +2,9 @@
 ghost use Rattle.std.specs.Prelude.{◌≡◌};
 ghost use Rattle.forms.specs.Refusals.{number, place};
 
+use std::error::Error;
+use std::fmt;
+
 #[derive(Clone, Copy, PartialEq, Eq, Debug)]
 pub enum FormsRefusal {
     Shape,
@@ -19,9 +22,9 @@ impl FormsRefusal {
         match self {
             FormsRefusal::Shape => 11,
             FormsRefusal::Length => 14,
-            FormsRefusal::NoCode { at: _ } => 15,
+            FormsRefusal::NoCode { .. } => 15,
             FormsRefusal::Scratch => 16,
-            FormsRefusal::DependentRow { row: _ } => 17,
+            FormsRefusal::DependentRow { .. } => 17,
         }
     }
 
@@ -30,11 +33,17 @@ impl FormsRefusal {
         ensures value { result ≡ place self }
     {
         match self {
-            FormsRefusal::Shape => 0,
-            FormsRefusal::Length => 0,
             FormsRefusal::NoCode { at } => at,
-            FormsRefusal::Scratch => 0,
             FormsRefusal::DependentRow { row } => row,
+            _ => 0,
         }
     }
 }
+
+impl fmt::Display for FormsRefusal {
+    fn fmt<W: fmt::Write>(&self, f: &mut fmt::Formatter<W>) -> fmt::Result {
+        write!(f, "refused {} at {}", self.number(), self.place())
+    }
+}
+
+impl Error for FormsRefusal {}

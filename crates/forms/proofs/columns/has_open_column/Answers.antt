@@ -11,20 +11,20 @@ use Rattle.forms.proofs.columns.has_open_column.Goals.{else-not-marks-c-via-then
 
 pub returns-then-is_some : goal.returns-then-is_some
 returns-then-is_some c =
-    let rows = rows_of c.args.k c.args.n c.args.codes.now in
+    let rows = rows_of c.args.matrix.now.k c.args.matrix.now.n c.args.matrix.now.codes.now in
     let marks = c.args.marks.now in
     let i = c.loop-c.c in
-    let tested = column_tested c.args.k c.args.n c.args.codes.now i c.pivot_row.result c.pivot_row.ensures.value in
-    record { value = sym (open_found rows marks c.args.n i c.loop-c-test.true (and_from (not (marked marks i)) (not (is_zero (column rows i))) (not_from_false (marked marks i) c.if-not-marks-c.true) (tested ∙ sym c.if-is_some.ensures))) }
+    let tested = column_tested c.args.matrix.now.k c.args.matrix.now.n c.args.matrix.now.codes.now i c.pivot_row.result c.pivot_row.ensures.value in
+    record { value = sym (open_found rows marks c.args.matrix.now.n i c.loop-c-test.true (and_from (not (marked marks i)) (not (is_zero (column rows i))) (not_from_false (marked marks i) c.if-not-marks-c.true) (tested ∙ sym c.if-is_some.ensures))) }
 
 pub loop-c-preserved : goal.loop-c-preserved
 loop-c-preserved c =
-    let rows = rows_of c.args.k c.args.n c.args.codes.now in
+    let rows = rows_of c.args.matrix.now.k c.args.matrix.now.n c.args.matrix.now.codes.now in
     let marks = c.args.marks.now in
     let i = c.loop-c.c in
     let more = open_more rows marks i c.loop-c.invariant in
     elim c.else-not-marks-c.branch [
       | else-not-marks-c-via-then-not-marks-c+else-is_some w ↦
-          more (and_right (not (marked marks i)) (not (is_zero (column rows i))) (column_tested c.args.k c.args.n c.args.codes.now i w.pivot_row.result w.pivot_row.ensures.value ∙ sym w.is_some.ensures ∙ w.if-is_some.false))
+          more (and_right (not (marked marks i)) (not (is_zero (column rows i))) (column_tested c.args.matrix.now.k c.args.matrix.now.n c.args.matrix.now.codes.now i w.pivot_row.result w.pivot_row.ensures.value ∙ sym w.is_some.ensures ∙ w.if-is_some.false))
       | else-not-marks-c-via-else-not-marks-c w ↦ more (and_left (not (marked marks i)) (not (is_zero (column rows i))) (not_from_true (marked marks i) w.if-not-marks-c.false))
     ]

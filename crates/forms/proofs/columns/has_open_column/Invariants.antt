@@ -5,4 +5,4 @@ use Rattle.forms.specs.ColumnMarks.{has_open}
 use Rattle.forms.proofs.columns.has_open_column.Given as goal
 
 abbrev pub invariant-loop-c : goal.invariant-loop-c
-invariant-loop-c l = has_open l.c (rows_of l.k l.n l.codes) l.marks ≡ false
+invariant-loop-c l = has_open l.c (rows_of l.matrix.k l.matrix.n l.matrix.codes.now) l.marks ≡ false
