@@ -2,16 +2,9 @@
 // What is printed to standard output are the ranks; the times go to standard error.
 #![tactic(auto)]
 
-use anyhow::anyhow;
 use fields::{Field, Gf4, PrimeField};
 use forms::{Form, make_forms};
 use std::time::Instant;
-
-const NO_FORM: Form = Form {
-    positions: [0; 32],
-    rank: 0,
-    rows: [0; 2048],
-};
 
 // How often the forms are made.
 const TURNS: u32 = 100;
@@ -20,14 +13,14 @@ const TURNS: u32 = 100;
 fn matrix(order: u8) -> [u8; 2048] {
     let mut codes = [0u8; 2048];
     let mut seed: u32 = 1;
-    for i in 0..2048 {
+    for (i, code) in codes.iter_mut().enumerate() {
         let row = i / 64;
         let column = i % 64;
         seed = seed.wrapping_mul(1_103_515_245).wrapping_add(12_345);
         if column < 32 {
-            codes[i] = if row == column { 1 } else { 0 };
+            *code = u8::from(row == column);
         } else if order > 0 {
-            codes[i] = ((seed >> 16) % u32::from(order)) as u8;
+            *code = ((seed >> 16) % u32::from(order)) as u8;
         }
     }
     codes
@@ -38,7 +31,7 @@ fn report<F: Field>(rt: &HostRuntime, field: &F) -> anyhow::Result<()> {
     let order = field.order();
     let codes = matrix(order);
     let mut scratch = vec![in rt.alloc(); 0u8; 4096]?;
-    let mut forms = [NO_FORM; 8];
+    let mut forms = [Form::EMPTY; 8];
     let start = Instant::now(rt)?;
     for _ in 0..TURNS {
         let _ = make_forms(field, &codes, 32, 64, scratch.as_mut_slice(), &mut forms);
@@ -57,10 +50,7 @@ fn report<F: Field>(rt: &HostRuntime, field: &F) -> anyhow::Result<()> {
 
 fn main(rt: HostRuntime) -> anyhow::Result<()> {
     for p in [2, 3, 13] {
-        let Ok(field) = PrimeField::new(p) else {
-            return Err(anyhow!("no such prime"));
-        };
-        report(&rt, &field)?;
+        report(&rt, &PrimeField::new(p)?)?;
     }
     report(&rt, &Gf4)
 }
