@@ -1,3 +1,2 @@
-pub mod SixBytes
 pub mod TrailSteps
 pub mod Trips

@@ -1,12 +1,19 @@
 -- There and back: the records of a trail, and the trail of its records.
-use Rattle.std.proofs.Common.{◌≡◌, ℕ, ◌+◌, ◌*◌, ◌/◌, ◌%◌, ◌<◌, cond, eqb, ltb, List, [], ◌∷◌, ◌++◌, length, drop, IfOk, Some, None, Ok, Err, Option, Result, sym, refl, ap, ◌∙◌, ⊎_elim, arith, MatchResult}
+use Rattle.std.proofs.Common.{◌≡◌, ℕ, ◌+◌, ◌*◌, ◌/◌, ◌%◌, ◌<◌, cond, eqb, ltb, List, [], ◌∷◌, ◌++◌, length, take, drop, OnOk, Some, None, Ok, Err, Option, Result, sym, refl, ap, ◌∙◌, ⊎_elim, arith, MatchResult}
 use Rattle.std.specs.List.{AllByRecursion as All}
+use Rattle.std.proofs.lemmas.List.{take_at}
 use Rattle.std.proofs.lemmas.Bool.{cases_Bool, cond-true, cond-false, eq-eqb}
 use Rattle.records.specs.declared.refusal.TrailRefusal.{TrailRefusal}
 use Rattle.records.specs.declared.refusal.TrailRefusal.TheVariants.{BufferShort, PartialRecord, FieldOutside, RollFull}
 use Rattle.records.specs.declared.trail.TrailRecord.{TrailRecord}
-use Rattle.records.specs.Trails.{in_range, trail, records_in, first_outside, write_fault, bytes_after, trail_fault, read_fault, records_after, refusal_of, short_fault}
-use Rattle.records.proofs.SixBytes.{visits-back, bytes_back}
+use Rattle.records.specs.Trails.{in_range, trail, records_in, first_outside, write_fault, bytes_after, trail_fault, read_fault, records_after, refusal_of, first_fault, short_fault}
+
+-- the number of four bytes
+visits-back : (v : ℕ) → v % 256 + 256 * (v / 256 % 256) + 65536 * (v / 65536 % 256 + 256 * (v / 16777216)) ≡ v
+visits-back v = omega arith
+
+bytes_back : (b c d e : ℕ) → b < 256 → c < 256 → d < 256 → e < 256 → ((b + 256 * c + 65536 * (d + 256 * e)) % 256 ≡ b) × ((b + 256 * c + 65536 * (d + 256 * e)) / 256 % 256 ≡ c) × ((b + 256 * c + 65536 * (d + 256 * e)) / 65536 % 256 ≡ d) × ((b + 256 * c + 65536 * (d + 256 * e)) / 16777216 ≡ e)
+bytes_back b c d e hb hc hd he = (omega arith, omega arith, omega arith, omega arith)
 
 -- a written trail reads back as its records
 pub records-back : (rs : List TrailRecord) → records_in (trail rs) ≡ rs
@@ -74,12 +81,28 @@ write_fault-read slots size bytes rs e is back =
     let good : first_outside 0 rs ≡ None = ap (first_outside 0) is ∙ read-in_range slots 0 (records_in bytes) (read-well slots bytes e) in
     ap (write_choice rs size) good ∙ ap (λ (m : ℕ). short_fault m size) (sym (length-trail rs) ∙ ap length back)
 
--- what an answer of reading leaves, and one of writing
-pub read_back : {U : Type 0} (r : Result U TrailRefusal) (xs rs : List TrailRecord) (bytes : List ℕ) → xs ≡ records_after (refusal_of r) bytes → records_in bytes ≡ rs → IfOk r (λ _. xs ≡ rs)
-read_back (Ok u) xs rs bytes after is = after ∙ is
-read_back (Err e) xs rs bytes after is = tt
+-- the front of a buffer that a trail was written to
+pub written_front : (rs : List TrailRecord) (buffer now : List ℕ) (n : ℕ) → now ≡ trail rs ++ drop (6 * length rs) buffer → n ≡ length rs → take (6 * n) now ≡ trail rs
+written_front rs buffer now n is long =
+    ap (take (6 * n)) is ∙ take_at (trail rs) (drop (6 * length rs) buffer) (6 * n) (omega (arith, length-trail rs))
 
-pub write_back : {U : Type 0} (r : Result U TrailRefusal) (now buffer bytes : List ℕ) (rs : List TrailRecord) → now ≡ bytes_after (refusal_of r) rs buffer → trail rs ≡ bytes → MatchResult r (λ _. now ≡ bytes ++ drop (length bytes) buffer) (λ _. now ≡ buffer)
-write_back (Ok u) now buffer bytes rs after back =
+-- what reading the front of the buffer refuses
+pub trip_fault : (slots : ℕ) (rs : List TrailRecord) (buffer now : List ℕ) (n size : ℕ) → None ≡ write_fault rs size → now ≡ trail rs ++ drop (6 * length rs) buffer → n ≡ length rs → read_fault slots (take (6 * n) now) ≡ first_fault (write_fault rs size) (trail_fault slots 0 rs)
+trip_fault slots rs buffer now n size good is long =
+    ap (read_fault slots) (written_front rs buffer now n is long) ∙ read_fault-trail slots rs ∙ ap (λ (o : Option TrailRefusal). first_fault o (trail_fault slots 0 rs)) good
+
+-- the records that reading it leaves
+pub trip_records : (r : Result (Unit {0}) TrailRefusal) (xs rs : List TrailRecord) (buffer now : List ℕ) (n : ℕ) → xs ≡ records_after (refusal_of r) (take (6 * n) now) → now ≡ trail rs ++ drop (6 * length rs) buffer → n ≡ length rs → OnOk r (xs ≡ rs)
+trip_records (Ok u) xs rs buffer now n after is long = after ∙ ap records_in (written_front rs buffer now n is long) ∙ records-back rs
+trip_records (Err e) xs rs buffer now n after is long = tt
+
+-- the buffer that writing a trail that was read leaves
+pub trip_bytes : (r : Result (Unit {0}) TrailRefusal) (now buffer bytes : List ℕ) (rs : List TrailRecord) → trail rs ≡ bytes → now ≡ bytes_after (refusal_of r) rs buffer → MatchResult r (λ _. now ≡ bytes ++ drop (length bytes) buffer) (λ _. now ≡ buffer)
+trip_bytes (Ok u) now buffer bytes rs back after =
     after ∙ ap (λ (front : List ℕ). front ++ drop (6 * length rs) buffer) back ∙ ap (λ (m : ℕ). bytes ++ drop m buffer) (sym (length-trail rs) ∙ ap length back)
-write_back (Err e) now buffer bytes rs after back = after
+trip_bytes (Err e) now buffer bytes rs back after = after
+
+-- what writing it refuses, after the fault of reading that there is none of
+pub trip_short : (slots size : ℕ) (bytes : List ℕ) (rs : List TrailRecord) → None ≡ read_fault slots bytes → rs ≡ records_in bytes → trail rs ≡ bytes → write_fault rs size ≡ first_fault (read_fault slots bytes) (short_fault (length bytes) size)
+trip_short slots size bytes rs good is back =
+    write_fault-read slots size bytes rs good is back ∙ ap (λ (o : Option TrailRefusal). first_fault o (short_fault (length bytes) size)) good

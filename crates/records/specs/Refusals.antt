@@ -1,5 +1,6 @@
 -- The number and the place of each refusal of a roll or a trail.
-use Rattle.std.specs.Prelude.{ℕ}
+use Rattle.std.specs.Prelude.{ℕ, List, ◌++◌, codes}
+use Rattle.std.specs.Fmt.{decimal}
 use Rattle.records.specs.declared.refusal.RollRefusal.{RollRefusal}
 use Rattle.records.specs.declared.refusal.RollRefusal.TheVariants.{Full, NoRecord}
 use Rattle.records.specs.declared.refusal.TrailRefusal.{TrailRefusal}
@@ -23,3 +24,11 @@ place BufferShort = 0
 place PartialRecord = 0
 place (FieldOutside i) = i
 place (RollFull i) = i
+
+-- What is printed of a roll's refusal: its number, and the place 0.
+abbrev pub roll_text : RollRefusal → List ℕ
+roll_text r = codes "refused " ++ (decimal (roll_number r) ++ codes " at 0")
+
+-- What is printed of a trail's refusal: its number and its place.
+abbrev pub text : TrailRefusal → List ℕ
+text r = codes "refused " ++ (decimal (number r) ++ (codes " at " ++ decimal (place r)))

@@ -1,5 +1,5 @@
 -- Trails: the bytes of records, and what writing and reading them refuse.
-use Rattle.std.specs.Prelude.{ℕ, ◌+◌, ◌*◌, ◌/◌, ◌%◌, Bool, cond, ◌&&◌, List, [], ◌∷◌, ◌++◌, length, drop, Some, None, Ok, Err, Option, Result, ◌==◌, nat_le, nat_lt}
+use Rattle.std.specs.Prelude.{ℕ, ◌+◌, ◌*◌, ◌/◌, ◌%◌, Bool, cond, ◌&&◌, List, [], ◌∷◌, ◌++◌, length, drop, Some, None, Ok, Err, Option, Result, ◌==◌, nat_le, nat_lt, slice_index}
 use Rattle.std.specs.List.{flat_map}
 use Rattle.records.specs.declared.refusal.TrailRefusal.{TrailRefusal}
 use Rattle.records.specs.declared.refusal.TrailRefusal.TheVariants.{BufferShort, PartialRecord, FieldOutside, RollFull}
@@ -20,6 +20,10 @@ trail rs = flat_map record_bytes rs
 -- The record of six bytes.
 abbrev pub record_of : ℕ → ℕ → ℕ → ℕ → ℕ → ℕ → TrailRecord
 record_of a b c d e f = record { form = a; visits = b + 256 * c + 65536 * (d + 256 * e); level = f }
+
+-- The record of six bytes that stand in a list.
+abbrev pub record_at : List ℕ → TrailRecord
+record_at bytes = record_of (slice_index bytes 0) (slice_index bytes 1) (slice_index bytes 2) (slice_index bytes 3) (slice_index bytes 4) (slice_index bytes 5)
 
 -- The records of bytes, six at a time; what is left at the end is no record.
 abbrev pub records_in : List ℕ → List TrailRecord

@@ -1,6 +1,9 @@
 // Why a roll or a trail is refused.
-ghost use Rattle.std.specs.Prelude.{◌≡◌};
-ghost use Rattle.records.specs.Refusals.{roll_number, number, place};
+ghost use Rattle.std.specs.Prelude.{◌≡◌, Some};
+ghost use Rattle.records.specs.Refusals.{roll_number, number, place, roll_text, text};
+
+use std::error::Error;
+use std::fmt;
 
 #[derive(Clone, Copy, PartialEq, Eq, Debug)]
 pub enum RollRefusal {
@@ -53,3 +56,23 @@ impl TrailRefusal {
         }
     }
 }
+
+impl fmt::Display for RollRefusal {
+    ghost output = { λ refusal. Some (roll_text refusal) };
+
+    fn fmt<W: fmt::Write>(&self, f: &mut fmt::Formatter<W>) -> fmt::Result {
+        write!(f, "refused {} at 0", self.number())
+    }
+}
+
+impl Error for RollRefusal {}
+
+impl fmt::Display for TrailRefusal {
+    ghost output = { λ refusal. Some (text refusal) };
+
+    fn fmt<W: fmt::Write>(&self, f: &mut fmt::Formatter<W>) -> fmt::Result {
+        write!(f, "refused {} at {}", self.number(), self.place())
+    }
+}
+
+impl Error for TrailRefusal {}

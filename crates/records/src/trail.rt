@@ -1,7 +1,7 @@
 // Trails: what was raised, six bytes a record.
-ghost use Rattle.std.specs.Prelude.{◌≡◌, ◌+◌, ◌*◌, ◌%◌, ◌≤◌, [], ◌++◌, length, drop, Some, None, MatchResult, OnOk, slice_index};
+ghost use Rattle.std.specs.Prelude.{◌≡◌, ◌*◌, ◌≤◌, [], ◌++◌, length, drop, map, MatchResult, OnOk};
 ghost use Rattle.records.specs.Rolls.{records, room};
-ghost use Rattle.records.specs.Trails.{in_range, record_of, record_bytes, trail, first_outside, write_fault, bytes_after, trail_fault, read_fault, records_in, records_after, refusal_of, first_fault, short_fault};
+ghost use Rattle.records.specs.Trails.{in_range, record_at, record_bytes, trail, first_outside, write_fault, bytes_after, trail_fault, read_fault, records_after, refusal_of, first_fault, short_fault};
 
 use crate::refusal::TrailRefusal;
 use crate::roll::Roll;
@@ -26,30 +26,24 @@ impl TrailRecord {
     }
 }
 
-// Writes the six bytes of a record.
-fn put(item: TrailRecord, bytes: &mut [u8])
-    requires { length bytes.old ≡ 6 }
-    ensures after { bytes.new ≡ record_bytes item }
-{
-    bytes[0] = item.form;
-    bytes[1] = (item.visits % 256) as u8;
-    bytes[2] = (item.visits / 256 % 256) as u8;
-    bytes[3] = (item.visits / 65_536 % 256) as u8;
-    bytes[4] = (item.visits / 16_777_216) as u8;
-    bytes[5] = item.level;
+impl From<TrailRecord> for [u8; RECORD_BYTES] {
+    ghost from_gives = { λ item bytes. bytes ≡ record_bytes item };
+
+    fn from(item: TrailRecord) -> [u8; RECORD_BYTES] {
+        let [a, b, c, d] = item.visits.to_le_bytes();
+        [item.form, a, b, c, d, item.level]
+    }
 }
 
-// The record whose six bytes begin at a place.
-fn record_at(bytes: &[u8], at: usize) -> TrailRecord
-    requires { at + 6 ≤ length bytes.now }
-    ensures value { result ≡ record_of (slice_index bytes.now at) (slice_index bytes.now (at + 1)) (slice_index bytes.now (at + 2)) (slice_index bytes.now (at + 3)) (slice_index bytes.now (at + 4)) (slice_index bytes.now (at + 5)) }
-{
-    let low = u32::from(bytes[at + 1]) + 256 * u32::from(bytes[at + 2]);
-    let high = u32::from(bytes[at + 3]) + 256 * u32::from(bytes[at + 4]);
-    TrailRecord {
-        form: bytes[at],
-        visits: low + 65_536 * high,
-        level: bytes[at + 5],
+impl From<[u8; RECORD_BYTES]> for TrailRecord {
+    ghost from_gives = { λ bytes item. item ≡ record_at bytes };
+
+    fn from([form, a, b, c, d, level]: [u8; RECORD_BYTES]) -> TrailRecord {
+        TrailRecord {
+            form,
+            visits: u32::from_le_bytes([a, b, c, d]),
+            level,
+        }
     }
 }
 
@@ -57,12 +51,7 @@ fn record_at(bytes: &[u8], at: usize) -> TrailRecord
 fn first_outside(items: &[TrailRecord]) -> Option<usize>
     ensures value { result ≡ first_outside 0 items.now }
 {
-    for (i, item) in items.iter().enumerate() {
-        if !item.in_range() {
-            return Some(i);
-        }
-    }
-    None
+    items.iter().position(|item| !item.in_range())
 }
 
 // Writes the trail of records to the front of a buffer.
@@ -71,25 +60,27 @@ fn put_all(items: &[TrailRecord], buffer: &mut [u8])
     ensures after { buffer.new ≡ trail items.now ++ drop (6 * length items.now) buffer.old }
 {
     for (i, item) in items.iter().enumerate() {
-        let at = RECORD_BYTES * i;
-        put(*item, &mut buffer[at..at + RECORD_BYTES]);
+        let bytes = <[u8; RECORD_BYTES]>::from(*item);
+        buffer[RECORD_BYTES * i..RECORD_BYTES * (i + 1)].copy_from_slice(&bytes);
     }
 }
 
 // Adds the records of a trail to an empty roll, up to the first at fault.
-fn add_records(bytes: &[u8], roll: &mut Roll<'_, TrailRecord>) -> Result<(), TrailRefusal>
-    requires { (records roll.old ≡ []) × (length bytes.now % 6 ≡ 0) }
-    ensures value { MatchResult result (λ _. (trail_fault (room roll.old) 0 (records_in bytes.now) ≡ None) × (records roll.new ≡ records_in bytes.now) × (trail (records roll.new) ≡ bytes.now)) (λ e. trail_fault (room roll.old) 0 (records_in bytes.now) ≡ Some e) }
+fn add_records(
+    parts: &[[u8; RECORD_BYTES]],
+    roll: &mut Roll<'_, TrailRecord>,
+) -> Result<(), TrailRefusal>
+    requires { records roll.old ≡ [] }
+    ensures value { refusal_of result ≡ trail_fault (room roll.old) 0 (map record_at parts.now) }
+    ensures added { OnOk result (records roll.new ≡ map record_at parts.now) }
     ensures same { (room roll.new ≡ room roll.old) × (roll.new.slots.ghost_name ≡ roll.old.slots.ghost_name) }
 {
-    for i in 0..bytes.len() / RECORD_BYTES {
-        let item = record_at(bytes, RECORD_BYTES * i);
+    for (at, part) in parts.iter().enumerate() {
+        let item = TrailRecord::from(*part);
         if !item.in_range() {
-            return Err(TrailRefusal::FieldOutside { at: i });
+            return Err(TrailRefusal::FieldOutside { at });
         }
-        if roll.add(item).is_err() {
-            return Err(TrailRefusal::RollFull { at: i });
-        }
+        roll.add(item).map_err(|_| TrailRefusal::RollFull { at })?;
     }
     Ok(())
 }
@@ -111,6 +102,7 @@ pub fn write_trail(roll: &Roll<'_, TrailRecord>, buffer: &mut [u8]) -> Result<()
 }
 
 // Reads a trail into a roll, which is emptied first, and left empty by a refusal.
+#[tactic(auto, using(crate::proofs::TrailSteps::parts_as_records, crate::proofs::TrailSteps::fault_of_whole))]
 pub fn read_trail(bytes: &[u8], roll: &mut Roll<'_, TrailRecord>) -> Result<(), TrailRefusal>
     ensures value { refusal_of result ≡ read_fault (room roll.old) bytes.now }
     ensures after { records roll.new ≡ records_after (refusal_of result) bytes.now }
@@ -118,10 +110,11 @@ pub fn read_trail(bytes: &[u8], roll: &mut Roll<'_, TrailRecord>) -> Result<(), 
     ensures same { (room roll.new ≡ room roll.old) × (roll.new.slots.ghost_name ≡ roll.old.slots.ghost_name) }
 {
     roll.clear();
-    if bytes.len() % RECORD_BYTES != 0 {
+    let (parts, rest) = bytes.as_chunks::<RECORD_BYTES>();
+    if !rest.is_empty() {
         return Err(TrailRefusal::PartialRecord);
     }
-    let read = add_records(bytes, roll);
+    let read = add_records(parts, roll);
     if read.is_err() {
         roll.clear();
     }
@@ -129,6 +122,7 @@ pub fn read_trail(bytes: &[u8], roll: &mut Roll<'_, TrailRecord>) -> Result<(), 
 }
 
 // Writes the trail of a roll into a buffer and reads it from there into another: that then holds the same records.
+#[tactic(auto, using(crate::proofs::Trips::trip_fault, crate::proofs::Trips::trip_records))]
 pub fn write_and_read(
     from: &Roll<'_, TrailRecord>,
     buffer: &mut [u8],
@@ -138,39 +132,13 @@ pub fn write_and_read(
     ensures back { OnOk result (records to.new ≡ records from.now) }
     ensures buffer { buffer.new ≡ bytes_after (write_fault (records from.now) (length buffer.old)) (records from.now) buffer.old }
 {
-    by_bytes(from, buffer, to)
+    write_trail(from, buffer)?;
+    read_trail(&buffer[..RECORD_BYTES * from.count()], to)
 }
 
 // Reads a trail into a roll and writes it from there into a buffer: that then begins with the same bytes.
+#[tactic(auto, using(crate::proofs::Trips::trip_short, crate::proofs::Trips::trip_bytes))]
 pub fn read_and_write(
-    bytes: &[u8],
-    roll: &mut Roll<'_, TrailRecord>,
-    buffer: &mut [u8],
-) -> Result<(), TrailRefusal>
-    ensures value { refusal_of result ≡ first_fault (read_fault (room roll.old) bytes.now) (short_fault (length bytes.now) (length buffer.old)) }
-    ensures back { MatchResult result (λ _. buffer.new ≡ bytes.now ++ drop (length bytes.now) buffer.old) (λ _. buffer.new ≡ buffer.old) }
-    ensures roll { records roll.new ≡ records_after (read_fault (room roll.old) bytes.now) bytes.now }
-{
-    by_records(bytes, roll, buffer)
-}
-
-// Records by way of their bytes.
-fn by_bytes(
-    from: &Roll<'_, TrailRecord>,
-    buffer: &mut [u8],
-    to: &mut Roll<'_, TrailRecord>,
-) -> Result<(), TrailRefusal>
-    ensures value { refusal_of result ≡ first_fault (write_fault (records from.now) (length buffer.old)) (trail_fault (room to.old) 0 (records from.now)) }
-    ensures back { OnOk result (records to.new ≡ records from.now) }
-    ensures buffer { buffer.new ≡ bytes_after (write_fault (records from.now) (length buffer.old)) (records from.now) buffer.old }
-{
-    write_trail(from, buffer)?;
-    let size = RECORD_BYTES * from.count();
-    read_trail(&buffer[0..size], to)
-}
-
-// Bytes by way of their records.
-fn by_records(
     bytes: &[u8],
     roll: &mut Roll<'_, TrailRecord>,
     buffer: &mut [u8],

@@ -45,12 +45,11 @@ impl<'a, T: Copy> Roll<'a, T> {
         ensures slots { self.new.slots.now ≡ (if is_ok result then slice_set self.old.slots.now (length (records self.old)) item else self.old.slots.now) }
         ensures same { (room self.new ≡ room self.old) × (self.new.slots.ghost_name ≡ self.old.slots.ghost_name) }
     {
-        let i = self.count;
-        if i >= MOST_SLOTS || i >= self.slots.len() {
+        if self.count >= self.room() {
             return Err(RollRefusal::Full);
         }
-        self.slots[i] = item;
-        self.count = i + 1;
+        self.slots[self.count] = item;
+        self.count += 1;
         Ok(())
     }
 
@@ -60,19 +59,15 @@ impl<'a, T: Copy> Roll<'a, T> {
         ensures refused { IfErr result (λ e. e ≡ NoRecord) }
         ensures after { into.new ≡ (if is_ok result then slice_index_or (records self.now) i into.old else into.old) }
     {
-        if i >= self.count {
-            return Err(RollRefusal::NoRecord);
-        }
-        let records = &self.slots[0..self.count];
-        *into = records[i];
+        *into = *self.as_slice().get(i).ok_or(RollRefusal::NoRecord)?;
         Ok(())
     }
 
     // The records as they lie in the caller's slots.
-    pub(crate) fn as_slice(&self) -> &[T]
+    pub fn as_slice(&self) -> &[T]
         ensures value { result.now ≡ records self.now }
         ensures bound { length result.now ≤ 4096 }
     {
-        &self.slots[0..self.count]
+        &self.slots[..self.count]
     }
 }
