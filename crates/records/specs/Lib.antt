@@ -1,3 +1,4 @@
 pub mod Refusals
 pub mod Rolls
+pub mod Texts
 pub mod Trails
