@@ -1,12 +1,13 @@
 -- There and back: the records of a trail, and the trail of its records.
 use Rattle.std.proofs.Common.{◌≡◌, ℕ, ◌+◌, ◌*◌, ◌/◌, ◌%◌, ◌<◌, cond, eqb, ltb, List, [], ◌∷◌, ◌++◌, length, take, drop, OnOk, Some, None, Ok, Err, Option, Result, sym, refl, ap, ◌∙◌, ⊎_elim, arith, MatchResult}
+use Rattle.std.specs.Result.{result_err}
 use Rattle.std.specs.List.{AllByRecursion as All}
 use Rattle.std.proofs.lemmas.List.{take_at}
 use Rattle.std.proofs.lemmas.Bool.{cases_Bool, cond-true, cond-false, eq-eqb}
 use Rattle.records.specs.declared.refusal.TrailRefusal.{TrailRefusal}
 use Rattle.records.specs.declared.refusal.TrailRefusal.TheVariants.{BufferShort, PartialRecord, FieldOutside, RollFull}
 use Rattle.records.specs.declared.trail.TrailRecord.{TrailRecord}
-use Rattle.records.specs.Trails.{in_range, trail, records_in, first_outside, write_fault, bytes_after, trail_fault, read_fault, records_after, refusal_of, first_fault, short_fault}
+use Rattle.records.specs.Trails.{in_range, trail, records_in, first_outside, write_fault, bytes_after, trail_fault, read_fault, records_after, first_fault, short_fault}
 
 -- the number of four bytes
 visits-back : (v : ℕ) → v % 256 + 256 * (v / 256 % 256) + 65536 * (v / 65536 % 256 + 256 * (v / 16777216)) ≡ v
@@ -92,15 +93,15 @@ trip_fault slots rs buffer now n size good is long =
     ap (read_fault slots) (written_front rs buffer now n is long) ∙ read_fault-trail slots rs ∙ ap (λ (o : Option TrailRefusal). first_fault o (trail_fault slots 0 rs)) good
 
 -- the records that reading it leaves
-pub trip_records : (r : Result (Unit {0}) TrailRefusal) (xs rs : List TrailRecord) (buffer now : List ℕ) (n : ℕ) → xs ≡ records_after (refusal_of r) (take (6 * n) now) → now ≡ trail rs ++ drop (6 * length rs) buffer → n ≡ length rs → OnOk r (xs ≡ rs)
+pub trip_records : (r : Result (Unit {0}) TrailRefusal) (xs rs : List TrailRecord) (buffer now : List ℕ) (n : ℕ) → xs ≡ records_after (result_err r) (take (6 * n) now) → now ≡ trail rs ++ drop (6 * length rs) buffer → n ≡ length rs → OnOk r (xs ≡ rs)
 trip_records (Ok u) xs rs buffer now n after is long = after ∙ ap records_in (written_front rs buffer now n is long) ∙ records-back rs
 trip_records (Err e) xs rs buffer now n after is long = tt
 
 -- the buffer that writing a trail that was read leaves
-pub trip_bytes : (r : Result (Unit {0}) TrailRefusal) (now buffer bytes : List ℕ) (rs : List TrailRecord) → trail rs ≡ bytes → now ≡ bytes_after (refusal_of r) rs buffer → MatchResult r (λ _. now ≡ bytes ++ drop (length bytes) buffer) (λ _. now ≡ buffer)
-trip_bytes (Ok u) now buffer bytes rs back after =
+pub trip_bytes : (rs : List TrailRecord) (r : Result (Unit {0}) TrailRefusal) (now buffer bytes : List ℕ) → trail rs ≡ bytes → now ≡ bytes_after (result_err r) rs buffer → MatchResult r (λ _. now ≡ bytes ++ drop (length bytes) buffer) (λ _. now ≡ buffer)
+trip_bytes rs (Ok u) now buffer bytes back after =
     after ∙ ap (λ (front : List ℕ). front ++ drop (6 * length rs) buffer) back ∙ ap (λ (m : ℕ). bytes ++ drop m buffer) (sym (length-trail rs) ∙ ap length back)
-trip_bytes (Err e) now buffer bytes rs back after = after
+trip_bytes rs (Err e) now buffer bytes back after = after
 
 -- what writing it refuses, after the fault of reading that there is none of
 pub trip_short : (slots size : ℕ) (bytes : List ℕ) (rs : List TrailRecord) → None ≡ read_fault slots bytes → rs ≡ records_in bytes → trail rs ≡ bytes → write_fault rs size ≡ first_fault (read_fault slots bytes) (short_fault (length bytes) size)

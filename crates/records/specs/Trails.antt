@@ -1,5 +1,5 @@
 -- Trails: the bytes of records, and what writing and reading them refuse.
-use Rattle.std.specs.Prelude.{ℕ, ◌+◌, ◌*◌, ◌/◌, ◌%◌, Bool, cond, ◌&&◌, List, [], ◌∷◌, ◌++◌, length, drop, Some, None, Ok, Err, Option, Result, ◌==◌, nat_le, nat_lt, slice_index}
+use Rattle.std.specs.Prelude.{ℕ, ◌+◌, ◌*◌, ◌/◌, ◌%◌, Bool, cond, ◌&&◌, List, [], ◌∷◌, ◌++◌, length, drop, Some, None, Option, ◌==◌, nat_le, nat_lt, slice_index}
 use Rattle.std.specs.List.{flat_map}
 use Rattle.records.specs.declared.refusal.TrailRefusal.{TrailRefusal}
 use Rattle.records.specs.declared.refusal.TrailRefusal.TheVariants.{BufferShort, PartialRecord, FieldOutside, RollFull}
@@ -62,11 +62,6 @@ read_fault slots bytes = cond (length bytes % 6 == 0) (trail_fault slots 0 (reco
 abbrev pub records_after : Option TrailRefusal → List ℕ → List TrailRecord
 records_after None bytes = records_in bytes
 records_after (Some f) bytes = []
-
--- The refusal of an answer, if it is one.
-abbrev pub refusal_of : {U : Type 0} → Result U TrailRefusal → Option TrailRefusal
-refusal_of (Ok u) = None
-refusal_of (Err e) = Some e
 
 -- The first of two faults.
 abbrev pub first_fault : Option TrailRefusal → Option TrailRefusal → Option TrailRefusal

@@ -1,7 +1,8 @@
 // Trails: what was raised, six bytes a record.
 ghost use Rattle.std.specs.Prelude.{◌≡◌, ◌*◌, ◌≤◌, [], ◌++◌, length, drop, map, MatchResult, OnOk};
+ghost use Rattle.std.specs.Result.{result_err};
 ghost use Rattle.records.specs.Rolls.{records, room};
-ghost use Rattle.records.specs.Trails.{in_range, record_at, record_bytes, trail, first_outside, write_fault, bytes_after, trail_fault, read_fault, records_after, refusal_of, first_fault, short_fault};
+ghost use Rattle.records.specs.Trails.{in_range, record_at, record_bytes, trail, first_outside, write_fault, bytes_after, trail_fault, read_fault, records_after, first_fault, short_fault};
 
 use crate::refusal::TrailRefusal;
 use crate::roll::Roll;
@@ -71,7 +72,7 @@ fn add_records(
     roll: &mut Roll<'_, TrailRecord>,
 ) -> Result<(), TrailRefusal>
     requires { records roll.old ≡ [] }
-    ensures value { refusal_of result ≡ trail_fault (room roll.old) 0 (map record_at parts.now) }
+    ensures value { result_err result ≡ trail_fault (room roll.old) 0 (map record_at parts.now) }
     ensures added { OnOk result (records roll.new ≡ map record_at parts.now) }
     ensures same { (room roll.new ≡ room roll.old) × (roll.new.slots.ghost_name ≡ roll.old.slots.ghost_name) }
 {
@@ -87,8 +88,8 @@ fn add_records(
 
 // Writes the trail of a roll's records to the front of a buffer: a refusal writes nothing.
 pub fn write_trail(roll: &Roll<'_, TrailRecord>, buffer: &mut [u8]) -> Result<(), TrailRefusal>
-    ensures value { refusal_of result ≡ write_fault (records roll.now) (length buffer.old) }
-    ensures after { buffer.new ≡ bytes_after (refusal_of result) (records roll.now) buffer.old }
+    ensures value { result_err result ≡ write_fault (records roll.now) (length buffer.old) }
+    ensures after { buffer.new ≡ bytes_after (result_err result) (records roll.now) buffer.old }
 {
     let items = roll.as_slice();
     if let Some(at) = first_outside(items) {
@@ -104,8 +105,8 @@ pub fn write_trail(roll: &Roll<'_, TrailRecord>, buffer: &mut [u8]) -> Result<()
 // Reads a trail into a roll, which is emptied first, and left empty by a refusal.
 #[tactic(auto, using(crate::proofs::TrailSteps::parts_as_records, crate::proofs::TrailSteps::fault_of_whole))]
 pub fn read_trail(bytes: &[u8], roll: &mut Roll<'_, TrailRecord>) -> Result<(), TrailRefusal>
-    ensures value { refusal_of result ≡ read_fault (room roll.old) bytes.now }
-    ensures after { records roll.new ≡ records_after (refusal_of result) bytes.now }
+    ensures value { result_err result ≡ read_fault (room roll.old) bytes.now }
+    ensures after { records roll.new ≡ records_after (result_err result) bytes.now }
     ensures trail { OnOk result (trail (records roll.new) ≡ bytes.now) }
     ensures same { (room roll.new ≡ room roll.old) × (roll.new.slots.ghost_name ≡ roll.old.slots.ghost_name) }
 {
@@ -122,13 +123,13 @@ pub fn read_trail(bytes: &[u8], roll: &mut Roll<'_, TrailRecord>) -> Result<(), 
 }
 
 // Writes the trail of a roll into a buffer and reads it from there into another: that then holds the same records.
-#[tactic(auto, using(crate::proofs::Trips::trip_fault, crate::proofs::Trips::trip_records))]
+#[tactic(auto, using(crate::proofs::Trips::trip_fault))]
 pub fn write_and_read(
     from: &Roll<'_, TrailRecord>,
     buffer: &mut [u8],
     to: &mut Roll<'_, TrailRecord>,
 ) -> Result<(), TrailRefusal>
-    ensures value { refusal_of result ≡ first_fault (write_fault (records from.now) (length buffer.old)) (trail_fault (room to.old) 0 (records from.now)) }
+    ensures value { result_err result ≡ first_fault (write_fault (records from.now) (length buffer.old)) (trail_fault (room to.old) 0 (records from.now)) }
     ensures back { OnOk result (records to.new ≡ records from.now) }
     ensures buffer { buffer.new ≡ bytes_after (write_fault (records from.now) (length buffer.old)) (records from.now) buffer.old }
 {
@@ -137,13 +138,13 @@ pub fn write_and_read(
 }
 
 // Reads a trail into a roll and writes it from there into a buffer: that then begins with the same bytes.
-#[tactic(auto, using(crate::proofs::Trips::trip_short, crate::proofs::Trips::trip_bytes))]
+#[tactic(auto, using(crate::proofs::Trips::trip_short))]
 pub fn read_and_write(
     bytes: &[u8],
     roll: &mut Roll<'_, TrailRecord>,
     buffer: &mut [u8],
 ) -> Result<(), TrailRefusal>
-    ensures value { refusal_of result ≡ first_fault (read_fault (room roll.old) bytes.now) (short_fault (length bytes.now) (length buffer.old)) }
+    ensures value { result_err result ≡ first_fault (read_fault (room roll.old) bytes.now) (short_fault (length bytes.now) (length buffer.old)) }
     ensures back { MatchResult result (λ _. buffer.new ≡ bytes.now ++ drop (length bytes.now) buffer.old) (λ _. buffer.new ≡ buffer.old) }
     ensures roll { records roll.new ≡ records_after (read_fault (room roll.old) bytes.now) bytes.now }
 {

@@ -5,5 +5,4 @@ use Rattle.records.proofs.Trips.{trip_bytes}
 use Rattle.records.proofs.trail.read_and_write.Goals as goal
 
 pub returns-clause-back : goal.returns-clause-back
-returns-clause-back c =
-    trip_bytes _ _ c.args.buffer.now c.args.bytes.now (records c.read_trail.new.roll) (search rules) (search rules)
+returns-clause-back c = search (rules, trip_bytes (records c.read_trail.new.roll))
