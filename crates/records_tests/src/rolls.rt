@@ -3,29 +3,34 @@ use records::{MOST_SLOTS, Roll, RollRefusal};
 use std::test::Fail;
 
 // A word with its weight: another kind of record.
-#[derive(Clone, Copy)]
+#[derive(Clone, Copy, PartialEq, Eq, Debug)]
 struct Weighed {
     word: [u8; 4],
     weight: u16,
 }
 
 #[test]
-fn numbers(rt: HostRuntime) {
+fn numbers(rt: HostRuntime) -> Result<(), Fail> {
     let mut slots = [0u32; 2];
-    let mut roll = Roll::new(&mut slots[..]);
+    let mut roll = Roll::new(&mut slots);
     assert!(rt; roll.count() == 0 && roll.room() == 2);
-    assert!(rt; roll.add(7).is_ok() && roll.add(8).is_ok());
+    roll.add(7)?;
+    roll.add(8)?;
     assert_eq!(rt; roll.add(9), Err(RollRefusal::Full));
+    assert_eq!(rt; roll.as_slice(), [7, 8].as_slice());
     let mut place = 5;
     assert_eq!(rt; roll.read(2, &mut place), Err(RollRefusal::NoRecord));
-    assert!(rt; place == 5 && roll.read(1, &mut place).is_ok());
+    assert_eq!(rt; place, 5);
+    roll.read(1, &mut place)?;
     assert_eq!(rt; place, 8);
     roll.clear();
-    assert!(rt; roll.count() == 0 && roll.add(3).is_ok());
+    assert_eq!(rt; roll.count(), 0);
+    roll.add(3)?;
+    Ok(())
 }
 
 #[test]
-fn structs(rt: HostRuntime) {
+fn structs(rt: HostRuntime) -> Result<(), Fail> {
     let first = Weighed {
         word: [1, 0, 1, 1],
         weight: 3,
@@ -34,23 +39,25 @@ fn structs(rt: HostRuntime) {
         word: [0; 4],
         weight: 0,
     }; 3];
-    let mut roll = Roll::new(&mut slots[..]);
-    assert!(rt; roll.add(first).is_ok() && roll.count() == 1);
+    let mut roll = Roll::new(&mut slots);
+    roll.add(first)?;
+    assert_eq!(rt; roll.count(), 1);
     let mut place = Weighed {
         word: [9; 4],
         weight: 9,
     };
-    assert!(rt; roll.read(0, &mut place).is_ok());
-    assert!(rt; place.weight == 3 && place.word[3] == 1);
+    roll.read(0, &mut place)?;
+    assert_eq!(rt; place, first);
+    Ok(())
 }
 
 #[test]
 fn most_slots(rt: HostRuntime) -> Result<(), Fail> {
     let mut slots = vec![in rt.alloc(); 0u8; 5_000]?;
-    let mut roll = Roll::new(slots.as_mut_slice());
+    let mut roll = Roll::new(&mut slots);
     assert_eq!(rt; roll.room(), MOST_SLOTS);
     for _ in 0..4_096 {
-        assert!(rt; roll.add(7).is_ok());
+        roll.add(7)?;
     }
     assert_eq!(rt; roll.add(1), Err(RollRefusal::Full));
     Ok(())

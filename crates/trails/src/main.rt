@@ -3,8 +3,8 @@
 
 mod requests;
 
-use records::{Roll, RollRefusal, TrailRecord, TrailRefusal, read_trail, write_trail};
-use requests::{bytes_of, number_of, record_of};
+use records::{Roll, TrailRecord, read_trail, write_trail};
+use requests::{Fault, Request};
 use std::io;
 
 // What slots hold before they are used, and bytes before they are written.
@@ -29,107 +29,68 @@ fn answer(rt: &HostRuntime, line: &str) -> anyhow::Result<()> {
     if line.is_empty() || line.starts_with('#') {
         return Ok(());
     }
-    let known = match line.split_once(' ') {
-        Some(("read", rest)) => read(rt, rest)?,
-        Some(("write", rest)) => write(rt, rest)?,
-        _ => false,
-    };
-    if !known {
-        println!(rt; "unknown request")?;
+    let words: Vec<&str> = line.split(' ').collect(rt.alloc())?;
+    match Request::from_words(rt.alloc(), &words)? {
+        Some(Request::Read { slots, bytes }) => read(rt, slots, &bytes),
+        Some(
+            Request::Write {
+                slots,
+                length,
+                records,
+            },
+        ) => write(rt, slots, length, records),
+        None => Ok(println!(rt; "{}", Fault::Unknown)?),
+    }
+}
+
+// Reads a trail into so many slots.
+fn read(rt: &HostRuntime, slots: usize, bytes: &[u8]) -> anyhow::Result<()> {
+    let mut slots = vec![in rt.alloc(); NO_RECORD; slots]?;
+    let mut roll = Roll::new(&mut slots[..]);
+    match read_trail(bytes, &mut roll) {
+        Ok(()) => print_records(rt, roll.as_slice())?,
+        Err(refusal) => println!(rt; "{refusal}")?,
     }
     Ok(())
 }
 
-// `read SLOTS HEX`: false if that is not what stands there.
-fn read(rt: &HostRuntime, rest: &str) -> anyhow::Result<bool> {
-    let Some((first, hex)) = rest.split_once(' ') else {
-        return Ok(false);
-    };
-    let Some(size) = number_of(first) else {
-        return Ok(false);
-    };
-    let Some(bytes) = bytes_of(rt.alloc(), hex)? else {
-        return Ok(false);
-    };
-    let mut slots = vec![in rt.alloc(); NO_RECORD; size]?;
-    let mut roll = Roll::new(slots.as_mut_slice());
-    match read_trail(bytes.as_slice(), &mut roll) {
-        Ok(()) => print_records(rt, &roll)?,
-        Err(refusal) => print_refusal(rt, refusal)?,
+// Writes the trail of records into a buffer of this length, by way of so many slots.
+fn write(rt: &HostRuntime, slots: usize, length: usize, records: &[&str]) -> anyhow::Result<()> {
+    let mut slots = vec![in rt.alloc(); NO_RECORD; slots]?;
+    let mut buffer = vec![in rt.alloc(); UNWRITTEN; length]?;
+    match write_words(records, &mut Roll::new(&mut slots[..]), &mut buffer[..]) {
+        Ok(()) => print_buffer(rt, &buffer)?,
+        Err(fault) => println!(rt; "{fault}")?,
     }
-    Ok(true)
+    Ok(())
 }
 
-// `write SLOTS LENGTH F,V,L ..`: false if that is not what stands there.
-fn write(rt: &HostRuntime, rest: &str) -> anyhow::Result<bool> {
-    let mut words = rest.split(' ');
-    let Some(first) = words.next() else {
-        return Ok(false);
-    };
-    let Some(second) = words.next() else {
-        return Ok(false);
-    };
-    let Some(size) = number_of(first) else {
-        return Ok(false);
-    };
-    let Some(length) = number_of(second) else {
-        return Ok(false);
-    };
-    let mut slots = vec![in rt.alloc(); NO_RECORD; size]?;
-    let mut roll = Roll::new(slots.as_mut_slice());
+// Adds the records of words to a roll and writes its trail into a buffer, up to the first fault.
+fn write_words(
+    words: &[&str],
+    roll: &mut Roll<'_, TrailRecord>,
+    buffer: &mut [u8],
+) -> Result<(), Fault> {
     for word in words {
-        let Some(item) = record_of(word) else {
-            return Ok(false);
-        };
-        if let Err(refusal) = roll.add(item) {
-            print_full(rt, refusal)?;
-            return Ok(true);
-        }
+        roll.add(word.parse()?)?;
     }
-    let mut buffer = vec![in rt.alloc(); UNWRITTEN; length]?;
-    match write_trail(&roll, buffer.as_mut_slice()) {
-        Ok(()) => print_buffer(rt, buffer.as_slice())?,
-        Err(refusal) => print_refusal(rt, refusal)?,
-    }
-    Ok(true)
+    write_trail(roll, buffer)?;
+    Ok(())
 }
 
 // The records of a roll on one line.
-fn print_records(rt: &HostRuntime, roll: &Roll<'_, TrailRecord>) -> io::Result<()> {
-    let count = roll.count();
-    print!(rt; "records {count}")?;
-    let mut item = NO_RECORD;
-    for i in 0..count {
-        let _ = roll.read(i, &mut item);
-        let form = item.form;
-        let visits = item.visits;
-        let level = item.level;
-        print!(rt; " {form},{visits},{level}")?;
+fn print_records(rt: &HostRuntime, records: &[TrailRecord]) -> io::Result<()> {
+    print!(rt; "records {}", records.len())?;
+    for record in records {
+        print!(rt; " {record}")?;
     }
     println!(rt; "")
 }
 
-// A buffer on one line, by its hexadecimal digits.
+// A buffer on one line, by its hexadecimal digits, `-` where it has no bytes.
 fn print_buffer(rt: &HostRuntime, buffer: &[u8]) -> io::Result<()> {
-    print!(rt; "buffer ")?;
     if buffer.is_empty() {
-        print!(rt; "-")?;
+        return println!(rt; "buffer -");
     }
-    for b in buffer {
-        print!(rt; "{b:02x}")?;
-    }
-    println!(rt; "")
-}
-
-// A refusal by its number and place.
-fn print_refusal(rt: &HostRuntime, refusal: TrailRefusal) -> io::Result<()> {
-    let number = refusal.number();
-    let place = refusal.place();
-    println!(rt; "refused {number} at {place}")
-}
-
-// A roll's refusal, whose place is 0.
-fn print_full(rt: &HostRuntime, refusal: RollRefusal) -> io::Result<()> {
-    let number = refusal.number();
-    println!(rt; "refused {number} at 0")
+    println!(rt; "buffer {}", hex::encode(rt.alloc(), buffer)?)
 }

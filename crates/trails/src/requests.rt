@@ -1,71 +1,97 @@
-// The words of a request.
-ghost use Rattle.std.specs.Prelude.{◌<◌, ◌≤◌, IfSome};
+// The requests of the program, and what keeps one from being carried out.
+ghost use Rattle.std.specs.Prelude.{◌≤◌, IfSome};
 
-use records::TrailRecord;
-use std::alloc::{AllocError, Global};
+use hex::FromHexError;
+use records::{ParseRecordError, RollRefusal, TrailRefusal};
+use std::alloc::Global;
+use thiserror::Error;
 
 // The most slots or bytes that a request may ask for.
 const MOST: usize = 65_536;
 
-// A number of slots or bytes.
-pub(crate) fn number_of(word: &str) -> Option<usize>
-    ensures bound { IfSome result (λ n. n ≤ 65536) }
-{
-    match word.parse::<usize>() {
-        Ok(n) => { if n <= MOST { Some(n) } else { None } }
-        Err(_) => None,
+// A request, whose records are read as they are added.
+#[derive(Drop)]
+pub(crate) enum Request<'a> {
+    // `read SLOTS HEX`
+    Read {
+        slots: usize,
+        bytes: Vec<u8>,
+    },
+    // `write SLOTS LENGTH F,V,L ..`
+    Write {
+        slots: usize,
+        length: usize,
+        records: &'a [&'a str],
+    },
+}
+
+// Why a request is not carried out.
+#[derive(Debug, Drop, Error)]
+pub(crate) enum Fault {
+    #[error("unknown request")]
+    Unknown,
+    #[error("{0}")]
+    Roll(#[from] RollRefusal),
+    #[error("{0}")]
+    Trail(#[from] TrailRefusal),
+}
+
+impl From<ParseRecordError> for Fault {
+    fn from(_error: ParseRecordError) -> Fault {
+        Fault::Unknown
     }
 }
 
-// A record, `F,V,L`.
-pub(crate) fn record_of(word: &str) -> Option<TrailRecord> {
-    let (form, rest) = word.split_once(',')?;
-    let (visits, level) = rest.split_once(',')?;
-    let Ok(form) = form.parse::<u8>() else {
-        return None;
+impl<'a> Request<'a> {
+    // The request of a line's words, none where they are none.
+    pub(crate) fn from_words(
+        alloc: Global,
+        words: &'a [&'a str],
+    ) -> anyhow::Result<Option<Request<'a>>> {
+        match *words {
+            ["read", slots, hex] => read_request(alloc, slots, hex),
+            ["write", slots, length, ref records @ ..] => {
+                Ok(write_request(slots, length, records))
+            }
+            _ => Ok(None),
+        }
+    }
+}
+
+fn read_request<'a>(alloc: Global, slots: &str, hex: &str) -> anyhow::Result<Option<Request<'a>>> {
+    let Some(slots) = number_of(slots) else {
+        return Ok(None);
     };
-    let Ok(visits) = visits.parse::<u32>() else {
-        return None;
-    };
-    let Ok(level) = level.parse::<u8>() else {
-        return None;
-    };
-    Some(TrailRecord {
-        form,
-        visits,
-        level,
+    let bytes = bytes_of(alloc, hex)?;
+    Ok(bytes.map(|bytes| Request::Read { slots, bytes }))
+}
+
+fn write_request<'a>(slots: &str, length: &str, records: &'a [&'a str]) -> Option<Request<'a>> {
+    Some(Request::Write {
+        slots: number_of(slots)?,
+        length: number_of(length)?,
+        records,
     })
 }
 
-// The bytes that hexadecimal digits write, `-` for none; none where they are no such digits.
-pub(crate) fn bytes_of(heap: Global, hex: &str) -> Result<Option<Vec<u8>>, AllocError> {
-    let mut bytes = Vec::new(heap);
-    if hex == "-" {
-        return Ok(Some(bytes));
-    }
-    let digits = hex.as_bytes();
-    if digits.is_empty() || digits.len() % 2 != 0 {
-        return Ok(None);
-    }
-    for i in 0..digits.len() / 2 {
-        let Some(high) = digit(digits[2 * i]) else {
-            return Ok(None);
-        };
-        let Some(low) = digit(digits[2 * i + 1]) else {
-            return Ok(None);
-        };
-        bytes.push(16 * high + low)?;
-    }
-    Ok(Some(bytes))
+// A number of slots or bytes.
+fn number_of(word: &str) -> Option<usize>
+    ensures bound { IfSome result (λ n. n ≤ 65536) }
+{
+    word.parse::<usize>().ok().filter(|n| *n <= MOST)
 }
 
-// The value of a hexadecimal digit.
-fn digit(b: u8) -> Option<u8>
-    ensures below { IfSome result (λ d. d < 16) }
-{
-    match b {
-        b'0'..=b'9' => Some(b - b'0'),
-        b'a'..=b'f' => Some(b - b'a' + 10),
-        _ => None,
+// The bytes that pairs of hexadecimal digits write, in lower case, `-` for none.
+fn bytes_of(alloc: Global, hex: &str) -> anyhow::Result<Option<Vec<u8>>> {
+    if hex == "-" {
+        return Ok(Some(Vec::new(alloc)));
+    }
+    if hex.is_empty() || hex.bytes().any(|b| b.is_ascii_uppercase()) {
+        return Ok(None);
+    }
+    match hex::decode(alloc, hex) {
+        Ok(bytes) => Ok(Some(bytes)),
+        Err(FromHexError::OutOfMemory) => Err(FromHexError::OutOfMemory.into()),
+        Err(_) => Ok(None),
     }
 }
