@@ -30,23 +30,24 @@ fn answer(rt: &HostRuntime, line: &str) -> anyhow::Result<()> {
         return Ok(());
     }
     let words: Vec<&str> = line.split(' ').collect(rt.alloc())?;
-    match Request::from_words(rt.alloc(), &words)? {
-        Some(Request::Read { slots, bytes }) => read(rt, slots, &bytes),
-        Some(
+    match Request::from_words(rt.alloc(), &words) {
+        Ok(Request::Read { slots, bytes }) => read(rt, slots, &bytes),
+        Ok(
             Request::Write {
                 slots,
                 length,
                 records,
             },
         ) => write(rt, slots, length, records),
-        None => Ok(println!(rt; "{}", Fault::Unknown)?),
+        Err(Fault::OutOfMemory) => Err(Fault::OutOfMemory.into()),
+        Err(fault) => Ok(println!(rt; "{fault}")?),
     }
 }
 
 // Reads a trail into so many slots.
 fn read(rt: &HostRuntime, slots: usize, bytes: &[u8]) -> anyhow::Result<()> {
     let mut slots = vec![in rt.alloc(); NO_RECORD; slots]?;
-    let mut roll = Roll::new(&mut slots[..]);
+    let mut roll = Roll::new(&mut slots);
     match read_trail(bytes, &mut roll) {
         Ok(()) => print_records(rt, roll.as_slice())?,
         Err(refusal) => println!(rt; "{refusal}")?,
@@ -58,7 +59,7 @@ fn read(rt: &HostRuntime, slots: usize, bytes: &[u8]) -> anyhow::Result<()> {
 fn write(rt: &HostRuntime, slots: usize, length: usize, records: &[&str]) -> anyhow::Result<()> {
     let mut slots = vec![in rt.alloc(); NO_RECORD; slots]?;
     let mut buffer = vec![in rt.alloc(); UNWRITTEN; length]?;
-    match write_words(records, &mut Roll::new(&mut slots[..]), &mut buffer[..]) {
+    match write_words(records, &mut Roll::new(&mut slots), &mut buffer) {
         Ok(()) => print_buffer(rt, &buffer)?,
         Err(fault) => println!(rt; "{fault}")?,
     }

@@ -1,9 +1,10 @@
 // The requests of the program, and what keeps one from being carried out.
-ghost use Rattle.std.specs.Prelude.{◌≤◌, IfSome};
+ghost use Rattle.std.specs.Prelude.{◌≤◌, IfOk};
 
 use hex::FromHexError;
 use records::{ParseRecordError, RollRefusal, TrailRefusal};
 use std::alloc::Global;
+use std::num::ParseIntError;
 use thiserror::Error;
 
 // The most slots or bytes that a request may ask for.
@@ -34,6 +35,14 @@ pub(crate) enum Fault {
     Roll(#[from] RollRefusal),
     #[error("{0}")]
     Trail(#[from] TrailRefusal),
+    #[error("out of memory")]
+    OutOfMemory,
+}
+
+impl From<ParseIntError> for Fault {
+    fn from(_error: ParseIntError) -> Fault {
+        Fault::Unknown
+    }
 }
 
 impl From<ParseRecordError> for Fault {
@@ -42,56 +51,56 @@ impl From<ParseRecordError> for Fault {
     }
 }
 
-impl<'a> Request<'a> {
-    // The request of a line's words, none where they are none.
-    pub(crate) fn from_words(
-        alloc: Global,
-        words: &'a [&'a str],
-    ) -> anyhow::Result<Option<Request<'a>>> {
-        match *words {
-            ["read", slots, hex] => read_request(alloc, slots, hex),
-            ["write", slots, length, ref records @ ..] => {
-                Ok(write_request(slots, length, records))
-            }
-            _ => Ok(None),
+impl From<FromHexError> for Fault {
+    fn from(error: FromHexError) -> Fault {
+        match error {
+            FromHexError::OutOfMemory => Fault::OutOfMemory,
+            _ => Fault::Unknown,
         }
     }
 }
 
-fn read_request<'a>(alloc: Global, slots: &str, hex: &str) -> anyhow::Result<Option<Request<'a>>> {
-    let Some(slots) = number_of(slots) else {
-        return Ok(None);
-    };
-    let bytes = bytes_of(alloc, hex)?;
-    Ok(bytes.map(|bytes| Request::Read { slots, bytes }))
-}
-
-fn write_request<'a>(slots: &str, length: &str, records: &'a [&'a str]) -> Option<Request<'a>> {
-    Some(Request::Write {
-        slots: number_of(slots)?,
-        length: number_of(length)?,
-        records,
-    })
+impl<'a> Request<'a> {
+    // The request of a line's words.
+    pub(crate) fn from_words(alloc: Global, words: &'a [&'a str]) -> Result<Request<'a>, Fault> {
+        match *words {
+            ["read", slots, hex] => {
+                Ok(Request::Read {
+                    slots: number_of(slots)?,
+                    bytes: bytes_of(alloc, hex)?,
+                })
+            }
+            ["write", slots, length, ref records @ ..] => {
+                Ok(Request::Write {
+                    slots: number_of(slots)?,
+                    length: number_of(length)?,
+                    records,
+                })
+            }
+            _ => Err(Fault::Unknown),
+        }
+    }
 }
 
 // A number of slots or bytes.
-fn number_of(word: &str) -> Option<usize>
-    ensures bound { IfSome result (λ n. n ≤ 65536) }
+fn number_of(word: &str) -> Result<usize, Fault>
+    ensures bound { IfOk result (λ n. n ≤ 65536) }
 {
-    word.parse::<usize>().ok().filter(|n| *n <= MOST)
+    let n = word.parse::<usize>()?;
+    if n <= MOST {
+        Ok(n)
+    } else {
+        Err(Fault::Unknown)
+    }
 }
 
 // The bytes that pairs of hexadecimal digits write, in lower case, `-` for none.
-fn bytes_of(alloc: Global, hex: &str) -> anyhow::Result<Option<Vec<u8>>> {
+fn bytes_of(alloc: Global, hex: &str) -> Result<Vec<u8>, Fault> {
     if hex == "-" {
-        return Ok(Some(Vec::new(alloc)));
+        return Ok(Vec::new(alloc));
     }
     if hex.is_empty() || hex.bytes().any(|b| b.is_ascii_uppercase()) {
-        return Ok(None);
+        return Err(Fault::Unknown);
     }
-    match hex::decode(alloc, hex) {
-        Ok(bytes) => Ok(Some(bytes)),
-        Err(FromHexError::OutOfMemory) => Err(FromHexError::OutOfMemory.into()),
-        Err(_) => Ok(None),
-    }
+    Ok(hex::decode(alloc, hex)?)
 }
