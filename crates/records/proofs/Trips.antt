@@ -17,13 +17,13 @@ bytes_back : (b c d e : ℕ) → b < 256 → c < 256 → d < 256 → e < 256 →
 bytes_back b c d e hb hc hd he = (omega arith, omega arith, omega arith, omega arith)
 
 -- a written trail reads back as its records
-pub records-back : (rs : List TrailRecord) → records_in (trail rs) ≡ rs
+records-back : (rs : List TrailRecord) → records_in (trail rs) ≡ rs
 records-back [] = refl
 records-back (r ∷ rs) =
     ap (λ (v : ℕ). record { form = r.form; visits = v; level = r.level } ∷ records_in (trail rs)) (visits-back r.visits) ∙ ap (λ (us : List TrailRecord). r ∷ us) (records-back rs)
 
 -- six bytes a record
-pub length-trail : (rs : List TrailRecord) → length (trail rs) ≡ 6 * length rs
+length-trail : (rs : List TrailRecord) → length (trail rs) ≡ 6 * length rs
 length-trail [] = refl
 length-trail (r ∷ rs) = omega (arith, length-trail rs)
 
@@ -45,10 +45,10 @@ bytes_back_all (a ∷ b ∷ c ∷ d ∷ e ∷ f ∷ rest) h all =
     cc
 
 never : {A B : Type 0} (x : B) → Some x ≡ None → A
-never x e = let z : ◌≡◌ {A = ℕ} 0 1 = cc in absurd (omega arith)
+never x e = cc
 
 -- what is read without a fault is in range
-pub read-in_range : (slots i : ℕ) (rs : List TrailRecord) → trail_fault slots i rs ≡ None → first_outside i rs ≡ None
+read-in_range : (slots i : ℕ) (rs : List TrailRecord) → trail_fault slots i rs ≡ None → first_outside i rs ≡ None
 read-in_range slots i [] e = refl
 read-in_range slots i (r ∷ rs) e =
     ⊎_elim
@@ -72,18 +72,18 @@ read-well slots bytes e =
     (cases_Bool (eqb (length bytes % 6) 0))
 
 -- what reading a written trail refuses is what its records are refused for
-pub read_fault-trail : (slots : ℕ) (rs : List TrailRecord) → read_fault slots (trail rs) ≡ trail_fault slots 0 rs
+read_fault-trail : (slots : ℕ) (rs : List TrailRecord) → read_fault slots (trail rs) ≡ trail_fault slots 0 rs
 read_fault-trail slots rs =
     cond-true (eqb (length (trail rs) % 6) 0) _ _ (eq-eqb _ _ (omega (arith, length-trail rs))) ∙ ap (trail_fault slots 0) (records-back rs)
 
 -- what writing a trail that was read refuses is a buffer too short for it
-pub write_fault-read : (slots size : ℕ) (bytes : List ℕ) (rs : List TrailRecord) → None ≡ read_fault slots bytes → rs ≡ records_in bytes → trail rs ≡ bytes → write_fault rs size ≡ short_fault (length bytes) size
+write_fault-read : (slots size : ℕ) (bytes : List ℕ) (rs : List TrailRecord) → None ≡ read_fault slots bytes → rs ≡ records_in bytes → trail rs ≡ bytes → write_fault rs size ≡ short_fault (length bytes) size
 write_fault-read slots size bytes rs e is back =
     let good : first_outside 0 rs ≡ None = ap (first_outside 0) is ∙ read-in_range slots 0 (records_in bytes) (read-well slots bytes e) in
     ap (write_choice rs size) good ∙ ap (λ (m : ℕ). short_fault m size) (sym (length-trail rs) ∙ ap length back)
 
 -- the front of a buffer that a trail was written to
-pub written_front : (rs : List TrailRecord) (buffer now : List ℕ) (n : ℕ) → now ≡ trail rs ++ drop (6 * length rs) buffer → n ≡ length rs → take (6 * n) now ≡ trail rs
+written_front : (rs : List TrailRecord) (buffer now : List ℕ) (n : ℕ) → now ≡ trail rs ++ drop (6 * length rs) buffer → n ≡ length rs → take (6 * n) now ≡ trail rs
 written_front rs buffer now n is long =
     ap (take (6 * n)) is ∙ take_at (trail rs) (drop (6 * length rs) buffer) (6 * n) (omega (arith, length-trail rs))
 

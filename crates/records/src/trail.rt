@@ -1,7 +1,7 @@
 // Trails: what was raised, six bytes a record.
 ghost use Rattle.std.specs.Prelude.{◌≡◌, ◌*◌, ◌≤◌, [], ◌++◌, length, drop, map, MatchResult, OnOk};
 ghost use Rattle.std.specs.Result.{result_err};
-ghost use Rattle.records.specs.Rolls.{records, room};
+ghost use Rattle.records.specs.Rolls.{records, room, SameSlots};
 ghost use Rattle.records.specs.Trails.{in_range, record_at, record_bytes, trail, first_outside, write_fault, bytes_after, trail_fault, read_fault, records_after, first_fault, short_fault};
 
 use crate::refusal::TrailRefusal;
@@ -74,7 +74,7 @@ fn add_records(
     requires { records roll.old ≡ [] }
     ensures value { result_err result ≡ trail_fault (room roll.old) 0 (map record_at parts.now) }
     ensures added { OnOk result (records roll.new ≡ map record_at parts.now) }
-    ensures same { (room roll.new ≡ room roll.old) × (roll.new.slots.ghost_name ≡ roll.old.slots.ghost_name) }
+    ensures same { SameSlots roll.old roll.new }
 {
     for (at, part) in parts.iter().enumerate() {
         let item = TrailRecord::from(*part);
@@ -108,7 +108,7 @@ pub fn read_trail(bytes: &[u8], roll: &mut Roll<'_, TrailRecord>) -> Result<(), 
     ensures value { result_err result ≡ read_fault (room roll.old) bytes.now }
     ensures after { records roll.new ≡ records_after (result_err result) bytes.now }
     ensures trail { OnOk result (trail (records roll.new) ≡ bytes.now) }
-    ensures same { (room roll.new ≡ room roll.old) × (roll.new.slots.ghost_name ≡ roll.old.slots.ghost_name) }
+    ensures same { SameSlots roll.old roll.new }
 {
     roll.clear();
     let (parts, rest) = bytes.as_chunks::<RECORD_BYTES>();

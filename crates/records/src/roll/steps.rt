@@ -1,7 +1,7 @@
 // What a roll does.
 ghost use Rattle.std.specs.Prelude.{◌≡◌, ◌+◌, ◌<◌, ◌≤◌, [], ◌∷◌, ◌++◌, length, is_ok, IfErr, if◌then◌else◌, nat_lt, slice_index_or, slice_set};
 ghost use Rattle.records.specs.declared.refusal.RollRefusal.TheVariants.{Full, NoRecord};
-ghost use Rattle.records.specs.Rolls.{records, room};
+ghost use Rattle.records.specs.Rolls.{records, room, SameSlots};
 
 use super::{MOST_SLOTS, Roll};
 use crate::refusal::RollRefusal;
@@ -43,7 +43,7 @@ impl<'a, T: Copy> Roll<'a, T> {
         ensures refused { IfErr result (λ e. e ≡ Full) }
         ensures after { records self.new ≡ (if is_ok result then records self.old ++ item ∷ [] else records self.old) }
         ensures slots { self.new.slots.now ≡ (if is_ok result then slice_set self.old.slots.now (length (records self.old)) item else self.old.slots.now) }
-        ensures same { (room self.new ≡ room self.old) × (self.new.slots.ghost_name ≡ self.old.slots.ghost_name) }
+        ensures same { SameSlots self.old self.new }
     {
         if self.count >= self.room() {
             return Err(RollRefusal::Full);
