@@ -7,12 +7,18 @@ ghost use Rattle.forms.specs.ColumnMarks.{marked, column_order, has_open};
 
 use crate::matrix::MatrixView;
 
+// Whether a column is marked.
+fn is_marked(marks: &[bool; 64], c: usize) -> bool
+    ensures value { result ≡ marked marks.now c }
+{
+    marks.get(c).copied().unwrap_or(false)
+}
+
 // Whether a column is marked, or not, as asked.
 fn is_wanted(marks: &[bool; 64], c: usize, wanted: bool) -> bool
-    requires { c < 64 }
     ensures value { result ≡ (if wanted then marked marks.now c else not (marked marks.now c)) }
 {
-    marks[c] == wanted
+    is_marked(marks, c) == wanted
 }
 
 // Puts the columns below n that are marked, or not, as asked, into the order from a place on; the place behind them.
@@ -49,26 +55,14 @@ pub(crate) fn order_columns(marks: &[bool; 64], n: usize) -> [u8; 64]
     order
 }
 
-// Whether a position is new: not marked as used.
-fn is_new(marks: &[bool; 64], p: u8) -> bool
-    requires { p < 64 }
-    ensures value { result ≡ not (marked marks.now p) }
-{
-    !marks[usize::from(p)]
-}
-
 // How many of the positions are not marked.
 pub(crate) fn count_unmarked(marks: &[bool; 64], positions: &[u8]) -> usize
-    requires { AllByRecursion (λ c. c < 64) positions.now }
     ensures value { result ≡ length (filter (λ p. not (marked marks.now p)) positions.now) }
 {
-    let mut count = 0;
-    for p in positions {
-        if is_new(marks, *p) {
-            count += 1;
-        }
-    }
-    count
+    positions
+        .iter()
+        .filter(|p| !is_marked(marks, usize::from(**p)))
+        .count()
 }
 
 // Marks the positions.
@@ -87,7 +81,7 @@ pub(crate) fn has_open_column(matrix: &MatrixView<'_>, marks: &[bool; 64]) -> bo
     ensures value { result ≡ has_open matrix.now.n (rows_of matrix.now.k matrix.now.n matrix.now.codes.now) marks.now }
 {
     for c in 0..matrix.n {
-        if !marks[c] && matrix.pivot_row(0, c).is_some() {
+        if !is_marked(marks, c) && matrix.pivot_row(0, c).is_some() {
             return true;
         }
     }

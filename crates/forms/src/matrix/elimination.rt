@@ -13,6 +13,7 @@ use fields::Field;
 
 impl<'a> MatrixMut<'a> {
     // A row becomes the pivot row of a column: it is scaled to 1 there, and the column is cleared in the others.
+    #[inline(always)]
     pub(crate) fn pivot_at<F: Field>(&mut self, field: &F, pivot: usize, column: usize)
         requires { (self.old.n ≤ 64) × (column < self.old.n) × (pivot < self.old.k) }
         ensures after { Pivoted (F.Field.meaning field.now) (F.Field.negation field.now) (F.Field.inversion field.now) self.old.k self.old.n self.old.codes.now pivot column self.new.codes.now }

@@ -53,6 +53,8 @@ impl<'a> MatrixMut<'a> {
     }
 
     // Each row but the pivot loses the multiple of the pivot row that leaves 0 in the column.
+    // Inlined, so that its loops know the length of a row where a caller does.
+    #[inline(always)]
     pub(crate) fn clear_rows<F: Field>(&mut self, field: &F, pivot: usize, column: usize)
         requires { (self.old.n ≤ 64) × (column < self.old.n) × (pivot < self.old.k) }
         ensures after { Cleared (F.Field.meaning field.now) (F.Field.negation field.now) (F.Field.inversion field.now) self.old.k self.old.n self.old.codes.now pivot column self.new.codes.now }
