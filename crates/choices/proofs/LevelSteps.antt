@@ -1,26 +1,26 @@
 -- The visits of a level: how many, each once, and which follows which.
-use Rattle.std.proofs.Common.{◌≡◌, ℕ, zero, suc, ◌+◌, ◌-◌, ◌*◌, ◌^◌, ◌≤◌, true, false, ltb, List, [], ◌∷◌, ◌++◌, map, length, get_or, sym, refl, ap, ◌∙◌, subst, ap₂, arith}
+use Rattle.std.proofs.Common.{◌≡◌, ℕ, zero, suc, ◌+◌, ◌-◌, ◌*◌, ◌^◌, ◌≤◌, true, ltb, List, [], ◌∷◌, ◌++◌, map, length, get_or, sym, refl, ap, ◌∙◌, subst, ap₂, arith}
 use mathlib.Core.Path.{fun_ext}
 use mathlib.Core.List.{map-append, map-map}
 use lib.ListN.{length-map}
 use Rattle.std.specs.List.{flat_map}
 use Rattle.std.proofs.lemmas.List.{get_or-map}
-use Rattle.std.proofs.lemmas.Bool.{and_parts, and_from, both_ways, ltb-true, lt-ltb}
+use Rattle.std.proofs.lemmas.Bool.{and_parts, and_from, ltb-true, lt-ltb}
 use Rattle.theory.specs.Meanings.{FieldMeaning}
 use Rattle.theory.specs.Codes.{combination}
 use Rattle.theory.specs.Visits.{choices, coefficients, picked, visits}
-use Rattle.theory.proofs.Lists.Members.{In, of_map}
+use Rattle.theory.proofs.Lists.Members.{In, of_map, of-joined}
 use Rattle.theory.proofs.Lists.Distinct.{Distinct, distinct-map, distinct-joined}
 use Rattle.theory.proofs.Lists.Blocks.{length-joined}
 use Rattle.theory.proofs.Lists.Tests.{decides_same}
 use Rattle.theory.proofs.Lists.Neighbours.{Last, Follows, first-map, last-map, follows_map, first-joined, last-joined, follows_joined, follows_joined-between}
 use Rattle.theory.proofs.Order.Choices.{distinct-choices, length-choices}
 use Rattle.theory.proofs.Order.Coefficients.{distinct-coefficients, length-coefficients}
-use Rattle.choices.specs.Places.{StandsAt, listed, Steps}
+use Rattle.choices.specs.Places.{StandsAt, Steps}
 use Rattle.choices.specs.Sizes.{level_size}
 use Rattle.choices.specs.LevelVisits.{level_visits, is_visit}
 use Rattle.choices.specs.Levels.{IsVisit}
-use Rattle.choices.proofs.Places.{first_stands, next_stands, last_stands, stands_first, stands_last, stands_follows, stands_by, listed_in, listed_stands}
+use Rattle.choices.proofs.Places.{stands_in, in_stands, first_stands, next_stands, last_stands, stands_first, stands_last, stands_follows, stands_by}
 
 module _ (k t q : ℕ) where
   -- The visits of one choice.
@@ -48,24 +48,36 @@ module _ (k t q : ℕ) where
   pub first_visit : (c cs : List ℕ) → StandsAt (choices k t) 0 c → StandsAt (coefficients q t) 0 cs → StandsAt (level_visits k t q) 0 (c, cs)
   first_visit c cs s r = first_stands (level_visits k t q) (c, cs) (first-joined of-choice (choices k t) c (c, cs) (stands_first (choices k t) c s) (first-map (λ ds. (c, ds)) (coefficients q t) cs (stands_first (coefficients q t) cs r)))
 
-  module _ (c cs : List ℕ) (h : listed (choices k t) c ≡ true) (g : listed (coefficients q t) cs ≡ true) where
-    follows_steps : (xs : List (List ℕ)) (x y : List ℕ) → listed xs x ≡ true → Steps xs true x y → Follows xs x y
-    follows_steps xs x y l f = let s = listed_stands xs x l in stands_follows xs x y s.0 s.1 (f s.0 s.1)
+  -- The rows of a visit are a choice, and its coefficients stand among those of the choice.
+  of_level : (c cs : List ℕ) (i : ℕ) → StandsAt (level_visits k t q) i (c, cs) → In c (choices k t) × In cs (coefficients q t)
+  of_level c cs i s =
+      let r = of-joined of-choice (c, cs) (choices k t) (stands_in (level_visits k t q) i (c, cs) s) in
+      let p = of_map (λ ds. (r.0, ds)) (c, cs) (coefficients q t) r.2 in
+      (subst (λ d. In d (choices k t)) (ap (λ (v : List ℕ × List ℕ). v.0) p.2) r.1, subst (λ d. In d (coefficients q t)) (ap (λ (v : List ℕ × List ℕ). v.1) p.2) p.1)
 
-    last_steps : (xs : List (List ℕ)) (x : List ℕ) → listed xs x ≡ true → ((i : ℕ) → StandsAt xs i x → i + 1 ≡ length xs) → Last xs x
-    last_steps xs x l f = let s = listed_stands xs x l in stands_last xs x s.0 s.1 (f s.0 s.1)
+  module _ (c cs : List ℕ) where
+    follows_steps : (xs : List (List ℕ)) (x y : List ℕ) → In x xs → Steps xs true x y → Follows xs x y
+    follows_steps xs x y m f = let s = in_stands xs x m in stands_follows xs x y s.0 s.1 (f s.0 s.1)
+
+    last_steps : (xs : List (List ℕ)) (x : List ℕ) → In x xs → ((i : ℕ) → StandsAt xs i x → i + 1 ≡ length xs) → Last xs x
+    last_steps xs x m f = let s = in_stands xs x m in stands_last xs x s.0 s.1 (f s.0 s.1)
 
     pub next_coefficients : (ds : List ℕ) → Steps (coefficients q t) true cs ds → Steps (level_visits k t q) true (c, cs) (c, ds)
-    next_coefficients ds f i s = next_stands (level_visits k t q) distinct_level (c, cs) (c, ds) (follows_joined of-choice (choices k t) c (c, cs) (c, ds) (listed_in (choices k t) c h) (follows_map (λ es. (c, es)) (coefficients q t) cs ds (follows_steps (coefficients q t) cs ds g f))) i s
+    next_coefficients ds f i s =
+        let m = of_level c cs i s in
+        next_stands (level_visits k t q) distinct_level (c, cs) (c, ds) (follows_joined of-choice (choices k t) c (c, cs) (c, ds) m.0 (follows_map (λ es. (c, es)) (coefficients q t) cs ds (follows_steps (coefficients q t) cs ds m.1 f))) i s
 
     module _ (over : (i : ℕ) → StandsAt (coefficients q t) i cs → i + 1 ≡ length (coefficients q t)) where
       pub next_choice : (d ones : List ℕ) → Steps (choices k t) true c d → StandsAt (coefficients q t) 0 ones → Steps (level_visits k t q) true (c, cs) (d, ones)
       next_choice d ones f o i s =
-          next_stands (level_visits k t q) distinct_level (c, cs) (d, ones) (follows_joined-between of-choice (choices k t) c d (c, cs) (d, ones) (follows_steps (choices k t) c d h f)
-          (last-map (λ es. (c, es)) (coefficients q t) cs (last_steps (coefficients q t) cs g over)) (first-map (λ es. (d, es)) (coefficients q t) ones (stands_first (coefficients q t) ones o))) i s
+          let m = of_level c cs i s in
+          next_stands (level_visits k t q) distinct_level (c, cs) (d, ones) (follows_joined-between of-choice (choices k t) c d (c, cs) (d, ones) (follows_steps (choices k t) c d m.0 f)
+          (last-map (λ es. (c, es)) (coefficients q t) cs (last_steps (coefficients q t) cs m.1 over)) (first-map (λ es. (d, es)) (coefficients q t) ones (stands_first (coefficients q t) ones o))) i s
 
       pub last_visit : ((i : ℕ) → StandsAt (choices k t) i c → i + 1 ≡ length (choices k t)) → (i : ℕ) → StandsAt (level_visits k t q) i (c, cs) → i + 1 ≡ length (level_visits k t q)
-      last_visit f i s = last_stands (level_visits k t q) distinct_level (c, cs) (last-joined of-choice (choices k t) c (c, cs) (last_steps (choices k t) c h f) (last-map (λ es. (c, es)) (coefficients q t) cs (last_steps (coefficients q t) cs g over))) i s
+      last_visit f i s =
+          let m = of_level c cs i s in
+          last_stands (level_visits k t q) distinct_level (c, cs) (last-joined of-choice (choices k t) c (c, cs) (last_steps (choices k t) c m.0 f) (last-map (λ es. (c, es)) (coefficients q t) cs (last_steps (coefficients q t) cs m.1 over))) i s
 
   -- The test and what it tells.
   pub visit_stands : (i : ℕ) (c cs : List ℕ) → is_visit k t q i c cs ≡ true → StandsAt (level_visits k t q) i (c, cs)
@@ -84,9 +96,9 @@ module _ (k t q : ℕ) where
       and_from (ltb i (length (level_visits k t q))) _ (lt-ltb i (length (level_visits k t q)) s.0) (and_from _ _ ((decides_same v.0 c).1 (ap (λ (p : List ℕ × List ℕ). p.0) e)) ((decides_same v.1 cs).1 (ap (λ (p : List ℕ × List ℕ). p.1) e)))
 
 -- Coefficients are those of at least one row.
-pub some_rows : (q t : ℕ) (cs : List ℕ) → listed (coefficients q t) cs ≡ true → 1 ≤ t
-some_rows q zero cs h = absurd (both_ways false refl h)
-some_rows q (suc t) cs h = omega arith
+pub some_rows : (k t q : ℕ) (c cs : List ℕ) (i : ℕ) → StandsAt (level_visits k t q) i (c, cs) → 1 ≤ t
+some_rows k zero q c cs i s = absurd (of_level k 0 q c cs i s).1
+some_rows k (suc t) q c cs i s = omega arith
 
 map-joined : {X Y Z : Type 0} (g : Y → Z) (f : X → List Y) (xs : List X) → map g (flat_map f xs) ≡ flat_map (λ x. map g (f x)) xs
 map-joined g f [] = refl

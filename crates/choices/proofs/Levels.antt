@@ -1,12 +1,13 @@
 -- The size of a level is the number of its visits, and within the limits of a code it is told exactly.
-use Rattle.std.proofs.Common.{◌≡◌, ℕ, zero, suc, ◌-◌, ◌*◌, ◌^◌, ◌<◌, min, List, length, Some, sym, ap, ◌∙◌, zero-mul, arith}
+use Rattle.std.proofs.Common.{◌≡◌, ℕ, zero, suc, ◌-◌, ◌*◌, ◌^◌, ◌<◌, ◌≤◌, min, List, length, Some, sym, ap, ◌∙◌, zero-mul, mul_comm, arith}
+use Rattle.std.proofs.lemmas.Bool.Decides.{nat_tests}
 use Rattle.theory.specs.Meanings.{FieldMeaning}
 use Rattle.theory.specs.Visits.{binomial, visits}
 use Rattle.theory.proofs.Equations.{visits-is}
 use Rattle.theory.proofs.Order.Choices.{binomial-none}
 use Rattle.theory.proofs.Order.Visits.{length-visits}
-use Rattle.choices.specs.Sizes.{level_size, TellsVisits}
-use Rattle.choices.proofs.Growth.{level_below}
+use Rattle.choices.specs.Sizes.{level_size, binomial_told, size_told, TellsVisits}
+use Rattle.choices.proofs.Growth.{level_below, stop_times}
 
 level_length : (f : FieldMeaning) (n : ℕ) (rows : List (List ℕ)) (t : ℕ) → length (visits f n rows t) ≡ level_size (length rows) t f.order
 level_length f n rows zero = ap length (visits-is f n rows zero)
@@ -31,3 +32,20 @@ level_some k zero q l = absurd (omega arith)
 level_some k (suc t) q l =
     let e : t ≡ suc t - 1 = omega arith in
     ap (λ s. binomial k (suc t) * (q - 1) ^ s) e
+
+-- What is told of numbers of choices and of visits is told for k up to 32.
+pub choices_told : (k t n : ℕ) → Some n ≡ binomial_told k t → (k ≤ 32) × (n ≡ binomial k t)
+choices_told k t n e = grind (arith, nat_tests)
+
+pub size_told_for : (k t q n : ℕ) → Some n ≡ size_told k t q → (k ≤ 32) × (n ≡ min (level_size k t q) (2 ^ 64 - 1))
+size_told_for k t q n e = grind (arith, nat_tests)
+
+pub tells_size : (k t q n : ℕ) → k ≤ 32 → n ≡ min (level_size k t q) (2 ^ 64 - 1) → Some n ≡ size_told k t q
+tells_size k t q n small e = grind (arith, nat_tests)
+
+-- A level with choices has the product of the choices and of the lists, each up to the largest number of 64 bits.
+pub level_product : (k t q : ℕ) → 0 < t → min (binomial k t * min ((q - 1) ^ (t - 1)) (2 ^ 64 - 1)) (2 ^ 64 - 1) ≡ min (level_size k t q) (2 ^ 64 - 1)
+level_product k t q some =
+    ap (λ x. min x (2 ^ 64 - 1)) (mul_comm (binomial k t) _)
+    ∙ stop_times ((q - 1) ^ (t - 1)) (binomial k t) (2 ^ 64 - 1)
+    ∙ ap (λ x. min x (2 ^ 64 - 1)) (mul_comm _ (binomial k t) ∙ sym (level_some k t q some))

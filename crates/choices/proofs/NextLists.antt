@@ -8,10 +8,10 @@ use Rattle.theory.proofs.Lists.Members.{In}
 use Rattle.theory.proofs.Order.Coefficients.{distinct-coefficients, next_list, end_list, first-list, list-codes}
 use Rattle.theory.proofs.Order.Exactly.{coefficients_are}
 use Rattle.theory.proofs.Order.Visits.{length_lists}
-use Rattle.choices.specs.Places.{StandsAt, Steps}
+use Rattle.choices.specs.Places.{StandsAt, listed, Steps}
 use Rattle.choices.specs.Turns.{FullBehind, LastToTurn, turned}
 use Rattle.choices.specs.Coefficients.{AllLists}
-use Rattle.choices.proofs.Places.{stands_in, first_stands, next_stands, last_stands}
+use Rattle.choices.proofs.Places.{stands_in, first_stands, next_stands, last_stands, stands_listed, listed_in}
 
 module _ (q : ℕ) (two : 2 ≤ q) (cs : List ℕ) where
   -- A code that is not q - 1 can go up.
@@ -37,6 +37,13 @@ take-replicate (suc n) (suc t) l = ap (λ u. 1 ∷ u) (take-replicate n t (omega
 
 pub ones_stand : (q t : ℕ) → 2 ≤ q → 1 ≤ t → t ≤ 32 → StandsAt (coefficients q t) 0 (take t (replicate 32 1))
 ones_stand q t two some small = subst (StandsAt (coefficients q t) 0) (sym (take-replicate 32 t small)) (first_stands (coefficients q t) (replicate t 1) (first-list q two t some))
+
+pub ones_listed : (q t : ℕ) → 2 ≤ q → 1 ≤ t → t ≤ 32 → listed (coefficients q t) (take t (replicate 32 1)) ≡ true
+ones_listed q t two some small = stands_listed (coefficients q t) 0 _ (ones_stand q t two some small)
+
+pub list_rows : (q t : ℕ) (cs : List ℕ) → listed (coefficients q t) cs ≡ true → 1 ≤ t
+list_rows q zero cs h = absurd (listed_in (coefficients q 0) cs h)
+list_rows q (suc t) cs h = omega arith
 
 pub list_length : (q : ℕ) → 2 ≤ q → (t : ℕ) (c : List ℕ) → In c (coefficients q t) → length c ≡ t
 list_length q two t c m = (list-codes q two t c m).0

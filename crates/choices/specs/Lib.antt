@@ -1,3 +1,4 @@
+pub mod Held
 pub mod Triangles
 pub mod Sizes
 pub mod Places

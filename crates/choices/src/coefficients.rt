@@ -1,7 +1,11 @@
 // The coefficients of the rows of a choice, at their place in order.
-ghost use Rattle.std.specs.Prelude.{◌≡◌, ◌≤◌, true, take};
+ghost use Rattle.std.specs.Prelude.{◌≡◌};
 ghost use Rattle.theory.specs.Visits.{coefficients as coefficient_lists};
-ghost use Rattle.choices.specs.Places.{listed};
+ghost use Rattle.choices.specs.Places.{StandsAt, Steps};
+ghost use Rattle.choices.specs.Coefficients.{codes_of, FirstListOr, AllLists};
+
+use crate::turns::step_codes;
+use std::marker::Model;
 
 // The coefficients of t rows over a field of order q: the first t of its codes, that of the lowest row first. They stand somewhere among all such lists.
 #[derive(Clone, Copy)]
@@ -9,9 +13,60 @@ pub struct Coefficients {
     codes: [u8; 32],
     t: usize,
     q: u8,
-    ghost small: { t ≤ 32 },
-    ghost two: { 2 ≤ q },
-    ghost stands: { listed (coefficient_lists q t) (take t codes) ≡ true },
 }
 
-pub(crate) mod moves;
+impl Model for Coefficients {
+    ghost use Rattle.std.specs.Prelude.{◌≡◌, ◌≤◌, true, take};
+    ghost use Rattle.theory.specs.Visits.{coefficients as coefficient_lists};
+    ghost use Rattle.choices.specs.Held.{HeldCoefficients};
+    ghost use Rattle.choices.specs.Places.{listed};
+
+    ghost Value = { HeldCoefficients };
+
+    ghost view = { λ c. record { codes = c.codes; t = c.t; q = c.q } };
+
+    ghost inverse = { λ c. record { codes = c.codes; t = c.t; q = c.q } };
+
+    ghost invariant = { λ c. (c.t ≤ 32) × (2 ≤ c.q) × (listed (coefficient_lists c.q c.t) (take c.t c.codes) ≡ true) };
+}
+
+impl Coefficients {
+    // The first coefficients of t rows over q codes, which are all 1; none for q below 2, for t above 32 and for no rows.
+    pub fn first(q: u8, t: usize) -> Option<Coefficients>
+        ensures value { FirstListOr q t result }
+        ensures all { AllLists q t }
+    {
+        if q < 2 || t == 0 || t > 32 {
+            return None;
+        }
+        Some(Coefficients {
+            codes: [1; 32],
+            t,
+            q,
+        })
+    }
+
+    // The coefficients, that of the lowest row first.
+    pub fn codes(&self) -> &[u8]
+        ensures value { result.now ≡ codes_of self.now }
+    {
+        &self.codes[..self.t]
+    }
+
+    // The step to the next coefficients; false, and nothing changes, at the last.
+    pub fn step(&mut self) -> bool
+        ensures value { Steps (coefficient_lists self.old.q self.old.t) result (codes_of self.old) (codes_of self.new) }
+        ensures same { (self.new.q ≡ self.old.q) × (self.new.t ≡ self.old.t) }
+    {
+        let q = self.q;
+        step_codes(&mut self.codes[..self.t], q)
+    }
+
+    // Back to the first coefficients.
+    pub fn restart(&mut self)
+        ensures after { StandsAt (coefficient_lists self.old.q self.old.t) 0 (codes_of self.new) }
+        ensures same { (self.new.q ≡ self.old.q) × (self.new.t ≡ self.old.t) }
+    {
+        self.codes = [1; 32];
+    }
+}

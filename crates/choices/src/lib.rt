@@ -4,7 +4,7 @@
 mod binomials;
 mod choice;
 mod coefficients;
-mod sizes;
+mod level;
 mod steps;
 mod turns;
 mod visit_counter;
@@ -12,5 +12,5 @@ mod visit_counter;
 pub use binomials::binomial;
 pub use choice::Choice;
 pub use coefficients::Coefficients;
-pub use sizes::level_size;
+pub use level::Level;
 pub use visit_counter::VisitCounter;

@@ -1,6 +1,7 @@
 // The step from a choice of rows to the next.
 ghost use Rattle.std.specs.Prelude.{◌≡◌, ◌+◌, ◌<◌, ◌≤◌, true, length, MatchOption, slice_index, slice_index_or};
 ghost use Rattle.choices.specs.Moves.{goes_up, at_end, AllAtEnd, FirstMovable, raised, lowered, is_choice, Steps};
+ghost use Rattle.choices.specs.Choosing.{OneExchanged};
 
 // The row above the one at a place, or k.
 fn row_above(rows: &[usize], k: usize, place: usize) -> usize
@@ -70,6 +71,7 @@ fn lower_row(rows: &mut [usize], place: usize)
 pub(crate) fn step_rows(rows: &mut [usize], k: usize) -> bool
     requires { (k ≤ 32) × (is_choice k (length rows.old) rows.old ≡ true) }
     ensures value { Steps k (length rows.old) result rows.old rows.new }
+    ensures exchange { result ≡ true → OneExchanged rows.old rows.new }
     ensures stands { is_choice k (length rows.old) rows.new ≡ true }
 {
     let Some(place) = movable_row(rows, k) else {

@@ -2,19 +2,50 @@
 // What is printed to standard output are sums over the steps, so that the work is really done; the times go to standard error.
 #![tactic(auto)]
 
-use anyhow::anyhow;
-use choices::{Choice, VisitCounter};
+use anyhow::Context;
+use choices::{Choice, Level, VisitCounter};
 use std::time::Instant;
 
-// The number of choices, and the sum of their lowest rows.
-fn run_choices(choice: &mut Choice, most: u64) -> (u64, u64) {
+// What stands at one place of an order, and steps to the next.
+trait Walk {
+    // A number of the place.
+    fn number(&self) -> u64;
+
+    // The step to the next place; false at the last.
+    fn advance(&mut self) -> bool;
+}
+
+// A choice shows its lowest row.
+impl Walk for Choice {
+    fn number(&self) -> u64 {
+        self.rows().first().map_or(0, |row| *row as u64)
+    }
+
+    fn advance(&mut self) -> bool {
+        self.step()
+    }
+}
+
+// A visit shows its last coefficient.
+impl Walk for VisitCounter {
+    fn number(&self) -> u64 {
+        self.coefficients()
+            .last()
+            .map_or(0, |code| u64::from(*code))
+    }
+
+    fn advance(&mut self) -> bool {
+        self.step()
+    }
+}
+
+// The number of places, up to `most`, and the sum of their numbers.
+fn run<W: Walk>(walk: &mut W, most: u64) -> (u64, u64) {
     let mut steps: u64 = 1;
     let mut sum: u64 = 0;
     for _ in 0..most {
-        if let Some(row) = choice.rows().first() {
-            sum = sum.wrapping_add(*row as u64);
-        }
-        if !choice.step() {
+        sum = sum.wrapping_add(walk.number());
+        if !walk.advance() {
             break;
         }
         steps = steps.wrapping_add(1);
@@ -22,59 +53,41 @@ fn run_choices(choice: &mut Choice, most: u64) -> (u64, u64) {
     (steps, sum)
 }
 
-// The number of visits, up to `most`, and the sum of their last coefficients.
-fn run_visits(counter: &mut VisitCounter, most: u64) -> (u64, u64) {
-    let mut steps: u64 = 1;
-    let mut sum: u64 = 0;
-    for _ in 0..most {
-        if let Some(code) = counter.coefficients().last() {
-            sum = sum.wrapping_add(u64::from(*code));
-        }
-        if !counter.step() {
-            break;
-        }
-        steps = steps.wrapping_add(1);
-    }
-    (steps, sum)
+// Steps through the places, and tells the time of a step.
+fn report<W: Walk>(
+    rt: &HostRuntime,
+    name: &str,
+    places: &str,
+    walk: &mut W,
+    most: u64,
+) -> anyhow::Result<()> {
+    let start = Instant::now(rt)?;
+    let (steps, sum) = run(walk, most);
+    let nanos = start.elapsed(rt)?.as_nanos();
+    println!(rt; "{name}: {steps} {places}, {sum}")?;
+    let tenths = nanos.saturating_mul(10) / u128::from(steps.max(1));
+    eprintln!(rt; "{name}: {tenths} tenths of a nanosecond a step")?;
+    Ok(())
 }
 
 // All of R(k, t), timed.
 fn report_choices(rt: &HostRuntime, k: usize, t: usize) -> anyhow::Result<()> {
-    let Some(mut choice) = Choice::first(k, t) else {
-        return Err(anyhow!("no such choices"));
-    };
-    let start = Instant::now(rt)?;
-    let (steps, sum) = run_choices(&mut choice, u64::MAX);
-    let nanos = start.elapsed(rt)?.as_nanos();
-    println!(rt; "R({k}, {t}): {steps} choices, {sum}")?;
-    if steps > 0 {
-        let tenths = nanos.saturating_mul(10) / u128::from(steps);
-        eprintln!(rt; "R({k}, {t}): {tenths} tenths of a nanosecond a step")?;
-    }
-    Ok(())
+    let mut choice = Choice::first(k, t).context("no such choices")?;
+    let name = format!(in rt.alloc(); "R({k}, {t})")?;
+    report(rt, &name, "choices", &mut choice, u64::MAX)
 }
 
 // The first ten million visits of a level, timed.
-fn report_visits(rt: &HostRuntime, k: usize, t: usize, q: u8) -> anyhow::Result<()> {
-    let Some(mut counter) = VisitCounter::first(k, t, q) else {
-        return Err(anyhow!("no such level"));
-    };
-    let start = Instant::now(rt)?;
-    let (steps, sum) = run_visits(&mut counter, 10_000_000);
-    let nanos = start.elapsed(rt)?.as_nanos();
-    println!(rt; "level {t} of {k} rows over GF({q}): {steps} visits, {sum}")?;
-    if steps > 0 {
-        let tenths = nanos.saturating_mul(10) / u128::from(steps);
-        eprintln!(rt;
-            "level {t} of {k} rows over GF({q}): {tenths} tenths of a nanosecond a step"
-        )?;
-    }
-    Ok(())
+fn report_visits(rt: &HostRuntime, level: Level) -> anyhow::Result<()> {
+    let mut counter = VisitCounter::first(level).context("no such level")?;
+    let Level { k, t, q } = level;
+    let name = format!(in rt.alloc(); "level {t} of {k} rows over GF({q})")?;
+    report(rt, &name, "visits", &mut counter, 10_000_000)
 }
 
 fn main(rt: HostRuntime) -> anyhow::Result<()> {
     report_choices(&rt, 32, 8)?;
-    report_visits(&rt, 32, 8, 2)?;
-    report_visits(&rt, 24, 6, 3)?;
-    report_visits(&rt, 8, 5, 13)
+    report_visits(&rt, Level { k: 32, t: 8, q: 2 })?;
+    report_visits(&rt, Level { k: 24, t: 6, q: 3 })?;
+    report_visits(&rt, Level { k: 8, t: 5, q: 13 })
 }

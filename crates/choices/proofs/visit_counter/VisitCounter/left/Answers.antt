@@ -1,0 +1,10 @@
+-- The counter stands before the end of the level.
+use Rattle.std.proofs.Common.{arith}
+use Rattle.choices.proofs.Counters.{counter_below}
+use Rattle.choices.proofs.visit_counter.VisitCounter.left.Goals as goal
+
+pub overflow_sub-result : goal.overflow_sub-result
+overflow_sub-result c = omega (arith, counter_below _ c.self.invariant)
+
+pub returns-clause-some : goal.returns-clause-some
+returns-clause-some c = omega (arith, counter_below _ c.self.invariant)
