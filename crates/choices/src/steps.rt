@@ -8,11 +8,7 @@ fn row_above(rows: &[usize], k: usize, place: usize) -> usize
     requires { place < length rows.now }
     ensures value { result ≡ slice_index_or rows.now (place + 1) k }
 {
-    if place + 1 < rows.len() {
-        rows[place + 1]
-    } else {
-        k
-    }
+    rows.get(place + 1).copied().unwrap_or(k)
 }
 
 // Whether the row at a place goes up: an even number of rows is above it.
@@ -39,12 +35,7 @@ fn row_at_end(rows: &[usize], k: usize, place: usize) -> bool
 fn movable_row(rows: &[usize], k: usize) -> Option<usize>
     ensures value { MatchOption result (AllAtEnd k rows.now (length rows.now)) (λ p. FirstMovable k rows.now p) }
 {
-    for place in 0..rows.len() {
-        if !row_at_end(rows, k, place) {
-            return Some(place);
-        }
-    }
-    None
+    (0..rows.len()).find(|place| !row_at_end(rows, k, *place))
 }
 
 // The row at a place goes up by one, and the row below it takes its place.

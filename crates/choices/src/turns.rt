@@ -9,12 +9,10 @@ fn place_to_turn(codes: &[u8], q: u8) -> Option<usize>
     requires { 2 ≤ q }
     ensures value { MatchOption result (FullBehind q codes.now 0) (λ p. LastToTurn q codes.now p) }
 {
-    for place in (1..codes.len()).rev() {
-        if codes[place] != q - 1 {
-            return Some(place);
-        }
-    }
-    None
+    codes
+        .iter()
+        .rposition(|code| *code != q - 1)
+        .filter(|place| *place > 0)
 }
 
 // The code at a place goes up by one, and those behind it start over at 1.
@@ -23,9 +21,7 @@ fn turn_at(codes: &mut [u8], place: usize)
     ensures after { codes.new ≡ turned codes.old place }
 {
     codes[place] += 1;
-    for behind in place + 1..codes.len() {
-        codes[behind] = 1;
-    }
+    codes[place + 1..].fill(1);
 }
 
 // The step to the next coefficients; false, and nothing changes, after the last.
