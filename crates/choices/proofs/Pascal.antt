@@ -1,11 +1,13 @@
 -- Pascal's triangle, a table of 33 rows of 33 numbers, has the binomial numbers, by one computed test.
-use Rattle.std.proofs.Common.{◌≡◌, ℕ, zero, suc, ◌+◌, ◌*◌, ◌<◌, Bool, false, not, eqb, List, get_or, refl, ◌∙◌, ap₂, arith}
+use Rattle.std.proofs.Common.{◌≡◌, ℕ, zero, suc, ◌+◌, ◌*◌, ◌<◌, ◌≤◌, Some, Bool, false, not, eqb, List, get_or, refl, ◌∙◌, ap₂, arith}
 use Rattle.std.specs.List.{range_with_len}
 use Rattle.std.proofs.lemmas.Bool.{not-false, eqb-true}
+use Rattle.std.proofs.lemmas.Bool.Decides.{nat_tests}
 use Rattle.theory.specs.Codes.{any}
 use Rattle.theory.specs.Visits.{binomial}
 use Rattle.theory.proofs.Lists.Members.{in_counting}
 use Rattle.theory.proofs.Lists.Tests.{not-any}
+use Rattle.choices.specs.Sizes.{binomial_told}
 use Rattle.choices.specs.Triangles.{triangle}
 
 module _ (table : List ℕ) where
@@ -34,3 +36,7 @@ module _ (table : List ℕ) where
 
 pub triangle-is : (k t : ℕ) → k < 33 → t < 33 → get_or triangle (33 * k + t) 0 ≡ binomial k t
 triangle-is = entry-is triangle refl
+
+-- A number of choices is told for k up to 32.
+pub tells_choices : (k t n : ℕ) → k ≤ 32 → n ≡ binomial k t → Some n ≡ binomial_told k t
+tells_choices k t n small e = grind (arith, nat_tests)

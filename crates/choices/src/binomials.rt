@@ -50,23 +50,15 @@ fn table_entry(place: usize) -> u64
     BINOMIALS[place]
 }
 
-// The number of choices of t rows out of k: none where t is above k.
-pub(crate) fn choice_count(k: usize, t: usize) -> u64
-    requires { k ≤ 32 }
-    ensures value { result ≡ binomial k t }
-{
-    if t > k {
-        return 0;
-    }
-    table_entry(33 * k + t)
-}
-
-// The number of choices of t rows out of k, for k up to 32.
+// The number of choices of t rows out of k, for k up to 32; 0 where t is above k.
 pub fn binomial(k: usize, t: usize) -> Option<u64>
     ensures value { result ≡ binomial_told k t }
 {
     if k > 32 {
         return None;
     }
-    Some(choice_count(k, t))
+    if t > k {
+        return Some(0);
+    }
+    Some(table_entry(33 * k + t))
 }

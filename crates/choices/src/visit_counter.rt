@@ -75,13 +75,13 @@ impl VisitCounter {
     pub fn at(level: Level, place: u64) -> Option<VisitCounter>
         ensures value { CounterOr level.k level.t level.q place result }
     {
-        let mut counter = VisitCounter::first(level)?;
-        for i in 0..place {
-            if !counter.step() {
+        let mut visit = VisitCounter::first(level)?;
+        for _ in 0..place {
+            if !visit.step() {
                 return None;
             }
         }
-        Some(counter)
+        Some(visit)
     }
 
     // The rows of the visit.

@@ -3,5 +3,5 @@ use Rattle.std.proofs.Common.{◌≡◌, true}
 use Rattle.choices.specs.Levels.{CounterAt, has_level}
 use Rattle.choices.proofs.visit_counter.VisitCounter.at.Given as goal
 
-abbrev pub invariant-loop-i : goal.invariant-loop-i
-invariant-loop-i l = let level = l.fn.level in (has_level level.k level.t level.q ≡ true) × CounterAt level.k level.t level.q l.i l.counter
+abbrev pub invariant-loop : goal.invariant-loop
+invariant-loop l = let level = l.fn.level in (has_level level.k level.t level.q ≡ true) × CounterAt level.k level.t level.q l.counter l.visit
