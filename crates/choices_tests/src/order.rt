@@ -2,41 +2,24 @@
 use choices::Choice;
 use std::test::Fail;
 
-// The choice stands at these two rows.
-fn stands_at(choice: &Choice, low: usize, high: usize) -> bool {
-    match *choice.rows() {
-        [a, b] => a == low && b == high,
-        _ => false,
-    }
-}
-
 #[test]
 fn two_of_four(rt: HostRuntime) -> Result<(), Fail> {
-    let Some(mut choice) = Choice::first(4, 2) else {
-        assert!(rt; false);
-        return Ok(());
-    };
-    assert!(rt; stands_at(&choice, 0, 1));
-    assert!(rt; choice.step() && stands_at(&choice, 1, 2));
-    assert!(rt; choice.step() && stands_at(&choice, 0, 2));
-    assert!(rt; choice.step() && stands_at(&choice, 2, 3));
-    assert!(rt; choice.step() && stands_at(&choice, 1, 3));
-    assert!(rt; choice.step() && stands_at(&choice, 0, 3));
-    assert!(rt; !choice.step() && stands_at(&choice, 0, 3));
+    let mut choice = Choice::first(4, 2).ok_or("no choice")?;
+    assert_eq!(rt; choice.rows(), [0, 1].as_slice());
+    for next in [[1, 2], [0, 2], [2, 3], [1, 3], [0, 3]] {
+        assert!(rt; choice.step());
+        assert_eq!(rt; choice.rows(), next.as_slice());
+    }
+    assert!(rt; !choice.step());
+    assert_eq!(rt; choice.rows(), [0, 3].as_slice());
     Ok(())
 }
 
 #[test]
 fn all_rows_and_none(rt: HostRuntime) -> Result<(), Fail> {
-    let Some(mut all) = Choice::first(32, 32) else {
-        assert!(rt; false);
-        return Ok(());
-    };
+    let mut all = Choice::first(32, 32).ok_or("no choice")?;
     assert!(rt; all.rows().len() == 32 && !all.step());
-    let Some(mut none) = Choice::first(3, 0) else {
-        assert!(rt; false);
-        return Ok(());
-    };
+    let mut none = Choice::first(3, 0).ok_or("no choice")?;
     assert!(rt; none.rows().is_empty() && !none.step());
     Ok(())
 }
@@ -48,16 +31,8 @@ fn no_choice(rt: HostRuntime) {
 
 #[test]
 fn as_many_as_there_are(rt: HostRuntime) -> Result<(), Fail> {
-    let Some(mut choice) = Choice::first(10, 4) else {
-        assert!(rt; false);
-        return Ok(());
-    };
-    let mut steps: u32 = 0;
-    for _ in 0..1000 {
-        if choice.step() {
-            steps = steps.saturating_add(1);
-        }
-    }
+    let mut choice = Choice::first(10, 4).ok_or("no choice")?;
+    let steps = (0..1000).filter(|_| choice.step()).count();
     assert_eq!(rt; steps, 209);
     Ok(())
 }

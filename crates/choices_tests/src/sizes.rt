@@ -1,5 +1,5 @@
 // Numbers of choices and of visits.
-use choices::{binomial, level_size};
+use choices::{Level, binomial};
 
 #[test]
 fn choices_of_rows(rt: HostRuntime) {
@@ -11,17 +11,22 @@ fn choices_of_rows(rt: HostRuntime) {
     assert_eq!(rt; binomial(33, 1), None);
 }
 
+// The number of visits of level t of k rows over q codes.
+fn size(k: usize, t: usize, q: u8) -> Option<u64> {
+    Level { k, t, q }.size()
+}
+
 #[test]
 fn visits_of_levels(rt: HostRuntime) {
-    assert_eq!(rt; level_size(4, 2, 2), Some(6));
-    assert_eq!(rt; level_size(5, 3, 13), Some(1440));
-    assert_eq!(rt; level_size(12, 12, 16), Some(8649755859375));
-    assert_eq!(rt; level_size(4, 0, 2), Some(0));
-    assert_eq!(rt; level_size(4, 5, 2), Some(0));
-    assert_eq!(rt; level_size(33, 1, 2), None);
+    assert_eq!(rt; size(4, 2, 2), Some(6));
+    assert_eq!(rt; size(5, 3, 13), Some(1440));
+    assert_eq!(rt; size(12, 12, 16), Some(8649755859375));
+    assert_eq!(rt; size(4, 0, 2), Some(0));
+    assert_eq!(rt; size(4, 5, 2), Some(0));
+    assert_eq!(rt; size(33, 1, 2), None);
 }
 
 #[test]
 fn beyond_the_limits(rt: HostRuntime) {
-    assert_eq!(rt; level_size(32, 20, 16), Some(u64::MAX));
+    assert_eq!(rt; size(32, 20, 16), Some(u64::MAX));
 }

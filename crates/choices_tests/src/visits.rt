@@ -1,35 +1,16 @@
 // Coefficients in order, and the visits of levels.
-use choices::{Coefficients, VisitCounter};
+use choices::{Coefficients, Level, VisitCounter};
 use std::test::Fail;
-
-// The two numbers are these.
-fn are(numbers: &[u8], first: u8, second: u8) -> bool {
-    match *numbers {
-        [a, b] => a == first && b == second,
-        _ => false,
-    }
-}
-
-// The two rows are these.
-fn rows_are(rows: &[usize], first: usize, second: usize) -> bool {
-    match *rows {
-        [a, b] => a == first && b == second,
-        _ => false,
-    }
-}
 
 #[test]
 fn two_coefficients_over_four_codes(rt: HostRuntime) -> Result<(), Fail> {
-    let Some(mut list) = Coefficients::first(4, 2) else {
-        assert!(rt; false);
-        return Ok(());
-    };
-    assert!(rt; are(list.codes(), 1, 1));
-    assert!(rt; list.step() && are(list.codes(), 1, 2));
-    assert!(rt; list.step() && are(list.codes(), 1, 3));
-    assert!(rt; !list.step() && are(list.codes(), 1, 3));
+    let mut list = Coefficients::first(4, 2).ok_or("no coefficients")?;
+    assert_eq!(rt; list.codes(), [1, 1].as_slice());
+    assert!(rt; list.step() && list.codes() == [1, 2].as_slice());
+    assert!(rt; list.step() && list.codes() == [1, 3].as_slice());
+    assert!(rt; !list.step() && list.codes() == [1, 3].as_slice());
     list.restart();
-    assert!(rt; are(list.codes(), 1, 1));
+    assert_eq!(rt; list.codes(), [1, 1].as_slice());
     Ok(())
 }
 
@@ -41,37 +22,34 @@ fn no_coefficients(rt: HostRuntime) {
 
 #[test]
 fn visits_of_two_rows_over_three_codes(rt: HostRuntime) -> Result<(), Fail> {
-    let Some(mut counter) = VisitCounter::first(3, 2, 3) else {
-        assert!(rt; false);
-        return Ok(());
-    };
+    let mut counter = VisitCounter::first(Level { k: 3, t: 2, q: 3 }).ok_or("no visit")?;
     assert!(rt; counter.left() == 6 && counter.place() == 0);
-    assert!(rt; rows_are(counter.rows(), 0, 1) && are(counter.coefficients(), 1, 1));
-    assert!(rt;
-        counter.step() && rows_are(counter.rows(), 0, 1) && are(counter.coefficients(), 1, 2)
-    );
-    assert!(rt;
-        counter.step() && rows_are(counter.rows(), 1, 2) && are(counter.coefficients(), 1, 1)
-    );
+    assert_eq!(rt; counter.rows(), [0, 1].as_slice());
+    assert_eq!(rt; counter.coefficients(), [1, 1].as_slice());
+    assert!(rt; counter.step());
+    assert_eq!(rt; counter.rows(), [0, 1].as_slice());
+    assert_eq!(rt; counter.coefficients(), [1, 2].as_slice());
+    assert!(rt; counter.step());
+    assert_eq!(rt; counter.rows(), [1, 2].as_slice());
+    assert_eq!(rt; counter.coefficients(), [1, 1].as_slice());
     assert!(rt; counter.left() == 4 && counter.place() == 2);
     Ok(())
 }
 
 #[test]
 fn from_any_place_on(rt: HostRuntime) -> Result<(), Fail> {
-    let Some(mut counter) = VisitCounter::at(3, 2, 3, 5) else {
-        assert!(rt; false);
-        return Ok(());
-    };
-    assert!(rt; rows_are(counter.rows(), 0, 2) && are(counter.coefficients(), 1, 2));
+    let level = Level { k: 3, t: 2, q: 3 };
+    let mut counter = VisitCounter::at(level, 5).ok_or("no visit")?;
+    assert_eq!(rt; counter.rows(), [0, 2].as_slice());
+    assert_eq!(rt; counter.coefficients(), [1, 2].as_slice());
     assert!(rt; counter.left() == 1 && !counter.step() && counter.left() == 1);
-    assert!(rt; VisitCounter::at(3, 2, 3, 6).is_none());
+    assert!(rt; VisitCounter::at(level, 6).is_none());
     Ok(())
 }
 
 #[test]
 fn levels_that_are_not_counted(rt: HostRuntime) {
-    assert!(rt; VisitCounter::first(33, 1, 2).is_none() && VisitCounter::first(4, 0, 2).is_none());
-    assert!(rt; VisitCounter::first(4, 5, 2).is_none() && VisitCounter::first(4, 2, 1).is_none());
-    assert!(rt; VisitCounter::first(32, 20, 16).is_none());
+    for (k, t, q) in [(33, 1, 2), (4, 0, 2), (4, 5, 2), (4, 2, 1), (32, 20, 16)] {
+        assert!(rt; VisitCounter::first(Level { k, t, q }).is_none());
+    }
 }

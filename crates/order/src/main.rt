@@ -2,80 +2,75 @@
 // Several requests are parted by the word `and`.
 #![tactic(auto)]
 
-use choices::{Choice, VisitCounter, binomial};
+use choices::{Choice, Level, VisitCounter, binomial};
 use std::fmt::Display;
 use std::{env, io};
+use thiserror::Error;
 
-fn main(rt: HostRuntime) -> anyhow::Result<()> {
-    run(&rt)
+// Why a request is not answered.
+#[derive(Debug, Drop, Error)]
+enum OrderError {
+    #[error("order K T [Q] takes two or three numbers")]
+    Numbers,
+    #[error("K goes from 0 to 32, T from 0 to K")]
+    Choices,
+    #[error("K goes up to 32, T from 1 to K, Q from 2 to 255, with fewer than 2^64 - 1 visits")]
+    Level,
+    #[error(transparent)]
+    Output(#[from] io::Error),
 }
 
-// Answers each request of the command line.
-fn run(rt: &HostRuntime) -> anyhow::Result<()> {
-    let mut numbers = Vec::new(rt.alloc());
-    let mut understood = true;
-    for word in env::args(rt)?.skip(1) {
-        if word.as_str() == "and" {
-            answer(rt, numbers.as_slice(), understood)?;
-            println!(rt; "")?;
-            numbers.clear();
-            understood = true;
-            continue;
+fn main(rt: HostRuntime) -> anyhow::Result<()> {
+    let words: Vec<String> = env::args(&rt)?.skip(1).collect(rt.alloc())?;
+    for (i, request) in words.split(|word| word.as_str() == "and").enumerate() {
+        if i > 0 {
+            println!(&rt; "")?;
         }
-        match word.as_str().parse::<usize>() {
-            Ok(number) => numbers.push(number)?,
-            Err(_) => understood = false,
+        match answer(&rt, request) {
+            Ok(()) => {}
+            Err(OrderError::Output(error)) => return Err(error.into()),
+            Err(refusal) => println!(&rt; "refused: {refusal}")?,
         }
     }
-    answer(rt, numbers.as_slice(), understood)?;
     Ok(())
 }
 
-// Answers one request.
-fn answer(rt: &HostRuntime, numbers: &[usize], understood: bool) -> io::Result<()> {
-    match *numbers {
-        [k, t] if understood => print_choices(rt, k, t),
-        [k, t, q] if understood => print_visits(rt, k, t, q),
-        _ => println!(rt; "refused: order K T [Q] takes two or three numbers"),
+// Answers one request: K and T, or K, T and Q.
+fn answer(rt: &HostRuntime, words: &[String]) -> Result<(), OrderError> {
+    match words {
+        [k, t] => print_choices(rt, number(k)?, number(t)?),
+        [k, t, q] => print_visits(rt, number(k)?, number(t)?, number(q)?),
+        _ => Err(OrderError::Numbers),
     }
 }
 
+fn number(word: &str) -> Result<usize, OrderError> {
+    word.parse().map_err(|_| OrderError::Numbers)
+}
+
 // R(k, t), a choice a line.
-fn print_choices(rt: &HostRuntime, k: usize, t: usize) -> io::Result<()> {
-    let Some(mut choice) = Choice::first(k, t) else {
-        return println!(rt; "refused: K goes from 0 to 32, T from 0 to K");
-    };
-    let count = binomial(k, t).unwrap_or(0);
-    for _ in 0..count {
+fn print_choices(rt: &HostRuntime, k: usize, t: usize) -> Result<(), OrderError> {
+    let mut choice = Choice::first(k, t).ok_or(OrderError::Choices)?;
+    for _ in 0..binomial(k, t).unwrap_or(0) {
         print_numbers(rt, choice.rows())?;
         println!(rt; "")?;
-        let _ = choice.step();
+        choice.step();
     }
     Ok(())
 }
 
 // The visits of a level, rows and coefficients a line.
-fn print_visits(rt: &HostRuntime, k: usize, t: usize, q: usize) -> io::Result<()> {
-    let Ok(q) = u8::try_from(q) else {
-        return refuse_level(rt);
-    };
-    let Some(mut counter) = VisitCounter::first(k, t, q) else {
-        return refuse_level(rt);
-    };
+fn print_visits(rt: &HostRuntime, k: usize, t: usize, q: usize) -> Result<(), OrderError> {
+    let q = u8::try_from(q).map_err(|_| OrderError::Level)?;
+    let mut counter = VisitCounter::first(Level { k, t, q }).ok_or(OrderError::Level)?;
     for _ in 0..counter.left() {
         print_numbers(rt, counter.rows())?;
         print!(rt; " with ")?;
         print_numbers(rt, counter.coefficients())?;
         println!(rt; "")?;
-        let _ = counter.step();
+        counter.step();
     }
     Ok(())
-}
-
-fn refuse_level(rt: &HostRuntime) -> io::Result<()> {
-    println!(rt;
-        "refused: K goes up to 32, T from 1 to K, Q from 2 to 255, with fewer than 2^64 - 1 visits"
-    )
 }
 
 // Numbers parted by single spaces.
