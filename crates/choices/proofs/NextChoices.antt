@@ -21,9 +21,6 @@ use Rattle.choices.specs.Moves.{goes_up, at_end, AllAtEnd, FirstMovable, raised,
 use Rattle.choices.specs.Choosing.{AllChoices, OneExchanged}
 use Rattle.choices.proofs.Places.{stands_in, first_stands, next_stands, last_stands, stands_follows, listed_in, listed_stands}
 
-pub choice-length : (k t : ℕ) (c : List ℕ) → In c (choices k t) → length c ≡ t
-choice-length k t c m = (of-choices k t c m).0
-
 not-among : (x : ℕ) (c : List ℕ) → (In x c → ⊥) → among x c ≡ false
 not-among x c apart = ⊎_elim (λ e. absurd (apart ((among_in x c).0 e))) (λ e. e) (cases_Bool (among x c))
 

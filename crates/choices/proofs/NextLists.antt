@@ -44,8 +44,5 @@ pub list_rows : (q t : ℕ) (cs : List ℕ) → listed (coefficients q t) cs ≡
 list_rows q zero cs h = absurd (listed_in (coefficients q 0) cs h)
 list_rows q (suc t) cs h = omega arith
 
-pub list_length : (q : ℕ) → 2 ≤ q → (t : ℕ) (c : List ℕ) → In c (coefficients q t) → length c ≡ t
-list_length q two t c m = (list-codes q two t c m).0
-
 pub all_lists : (q t : ℕ) → AllLists q t
 all_lists q t two = (coefficients_are q two t, length_lists q t)

@@ -1,6 +1,6 @@
 -- Places in a list: which element follows, which is the last, and what a test tells.
-use Rattle.std.proofs.Common.{◌≡◌, ℕ, suc, ◌+◌, ◌<◌, Bool, true, List, ◌∷◌, ◌++◌, length, get_or, take, drop, sym, ap, ◌∙◌, subst, add-one, arith, length-drop, drop-cons}
-use lib.Seq.{take-append_seam, split_at}
+use Rattle.std.proofs.Common.{◌≡◌, ℕ, suc, ◌+◌, ◌<◌, true, List, ◌∷◌, ◌++◌, length, get_or, take, drop, sym, ap, ◌∙◌, subst, add-one, arith, length-drop, drop-cons}
+use lib.Seq.{split_at}
 use Rattle.std.proofs.lemmas.List.{get_or_default, nil_from_length}
 use Rattle.theory.proofs.Lists.Members.{In, in-get_or, place_of}
 use Rattle.theory.proofs.Lists.Distinct.{Distinct}
@@ -57,20 +57,3 @@ module _ (xs : List (List ℕ)) where
 -- Where a step to y is shown, y stands in the list too.
 pub stepped_test : (xs : List (List ℕ)) (x y : List ℕ) → listed xs x ≡ true → Steps xs true x y → listed xs y ≡ true
 stepped_test xs x y h f = let s = listed_stands xs x h in stands_listed xs (s.0 + 1) y (f s.0 s.1)
-
--- Of a list behind which others stand, the step of its first t is a step of the whole: xs t has the lists of length t.
-module _ (xs : ℕ → List (List ℕ)) (lengths : (t : ℕ) (c : List ℕ) → In c (xs t) → length c ≡ t)
-    (t : ℕ) (all next : List ℕ) (was : listed (xs t) (take t all) ≡ true) (is : listed (xs (length (take t all))) next ≡ true) where
-  long : length (take t all) ≡ t
-  long = lengths t (take t all) (listed_in (xs t) (take t all) was)
-
-  front : take t (next ++ drop t all) ≡ next
-  front =
-      let e : length next ≡ t = lengths (length (take t all)) next (listed_in (xs (length (take t all))) next is) ∙ long in
-      ap (λ n. take n (next ++ drop t all)) (sym e) ∙ take-append_seam next (drop t all)
-
-  pub front_test : listed (xs t) (take t (next ++ drop t all)) ≡ true
-  front_test = subst (λ n. listed (xs n) (take t (next ++ drop t all)) ≡ true) long (subst (λ d. listed (xs (length (take t all))) d ≡ true) (sym front) is)
-
-  pub front_steps : (r : Bool) → Steps (xs (length (take t all))) r (take t all) next → Steps (xs t) r (take t all) (take t (next ++ drop t all))
-  front_steps r h = subst (λ d. Steps (xs t) r (take t all) d) (sym front) (subst (λ n. Steps (xs n) r (take t all) next) long h)

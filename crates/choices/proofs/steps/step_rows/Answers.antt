@@ -1,23 +1,19 @@
 -- The step is the one to the next choice.
-use Rattle.std.proofs.lemmas.Bool.{both_ways}
-use Rattle.std.proofs.Common.{◌+◌, true, false, length, sym, refl, subst, arith}
+use Rattle.std.proofs.Common.{◌+◌, true, length, sym, refl, subst, arith}
 use Rattle.theory.specs.Visits.{choices}
 use Rattle.choices.specs.Places.{StandsAt, Steps}
 use Rattle.choices.proofs.Places.{stepped_test}
 use Rattle.choices.proofs.RowPlaces.{from_choice, to_choice_steps}
-use Rattle.choices.proofs.NextChoices.{row_below, free_down, steps_exchange, steps_up, steps_down, steps_none}
+use Rattle.choices.proofs.NextChoices.{row_below, steps_exchange, steps_up, steps_down, steps_none}
 use Rattle.choices.proofs.steps.step_rows.Goals as goal
 
-pub returns-in_default : goal.returns-in_default
-returns-in_default c = record { value = (refl, λ i s. steps_none c.args.k c.args.rows.now c.in_default.ensures.value i (from_choice c.args.k (length c.args.rows.now) i c.args.rows.now s)); exchange = λ e. absurd (both_ways false refl e); stands = c.requires.1 }
+pub returns-in_default-clause-value : goal.returns-in_default-clause-value
+returns-in_default-clause-value c = (refl, λ i s. steps_none c.args.k c.args.rows.now c.in_default.ensures.value i (from_choice c.args.k (length c.args.rows.now) i c.args.rows.now s))
 
 pub raise_row-requires : goal.raise_row-requires
 raise_row-requires c =
     let inside = c.in-Some.ensures.value.0 in
     (inside, omega (arith, row_below c.args.k c.args.rows.now c.requires.1 c.in-Some.place inside, c.requires.0))
-
-pub lower_row-requires : goal.lower_row-requires
-lower_row-requires c = (c.in-Some.ensures.value.0, omega (arith, free_down c.args.k c.args.rows.now c.in-Some.place (sym c.if-row_goes_up.ensures.value) c.in-Some.ensures.value.1))
 
 pub returns-then-row_goes_up : goal.returns-then-row_goes_up
 returns-then-row_goes_up c =

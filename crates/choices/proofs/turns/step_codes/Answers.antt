@@ -6,8 +6,8 @@ use Rattle.choices.proofs.Places.{listed_in, stepped_test}
 use Rattle.choices.proofs.NextLists.{free_code, steps_turn, steps_over}
 use Rattle.choices.proofs.turns.step_codes.Goals as goal
 
-pub returns-in_default : goal.returns-in_default
-returns-in_default c = record { value = (refl, steps_over c.args.q c.requires.0 c.args.codes.now c.in_default.ensures.value); stands = c.requires.1 }
+pub returns-in_default-clause-value : goal.returns-in_default-clause-value
+returns-in_default-clause-value c = (refl, steps_over c.args.q c.requires.0 c.args.codes.now c.in_default.ensures.value)
 
 pub turn_at-requires : goal.turn_at-requires
 turn_at-requires c =
