@@ -1,5 +1,5 @@
 -- Pascal's triangle, a table of 33 rows of 33 numbers, has the binomial numbers, by one computed test.
-use Rattle.std.proofs.Common.{◌≡◌, ℕ, zero, suc, ◌+◌, ◌*◌, ◌<◌, ◌≤◌, Some, Bool, false, not, eqb, List, get_or, refl, ◌∙◌, ap₂, arith}
+use Rattle.std.proofs.Common.{◌≡◌, ℕ, zero, suc, ◌+◌, ◌<◌, ◌≤◌, Some, Bool, false, not, eqb, List, [], get_or, refl, ◌∙◌, ap₂, arith}
 use Rattle.std.specs.List.{range_with_len}
 use Rattle.std.proofs.lemmas.Bool.{not-false, eqb-true}
 use Rattle.std.proofs.lemmas.Bool.Decides.{nat_tests}
@@ -10,9 +10,9 @@ use Rattle.theory.proofs.Lists.Tests.{not-any}
 use Rattle.choices.specs.Sizes.{binomial_told}
 use Rattle.choices.specs.Triangles.{triangle}
 
-module _ (table : List ℕ) where
+module _ (table : List (List ℕ)) where
   abbrev entry : ℕ → ℕ → ℕ
-  entry k t = get_or table (33 * k + t) 0
+  entry k t = get_or (get_or table k []) t 0
 
   -- what Pascal's rule makes of the entries before
   abbrev by_rule : ℕ → ℕ → ℕ
@@ -29,12 +29,12 @@ module _ (table : List ℕ) where
         let row = not-any (λ j. any (breaks_rule j) (range_with_len 0 33)) k (range_with_len 0 33) kept (in_counting k 0 33 (omega arith) (omega arith)) in
         eqb-true (entry k t) (by_rule k t) (not-false _ (not-any (breaks_rule k) t (range_with_len 0 33) row (in_counting t 0 33 (omega arith) (omega arith))))
 
-    entry-is : (k t : ℕ) → k < 33 → t < 33 → get_or table (33 * k + t) 0 ≡ binomial k t
+    entry-is : (k t : ℕ) → k < 33 → t < 33 → get_or (get_or table k []) t 0 ≡ binomial k t
     entry-is k zero hk ht = rule_at k zero hk ht
     entry-is zero (suc t) hk ht = rule_at zero (suc t) hk ht
     entry-is (suc k) (suc t) hk ht = rule_at (suc k) (suc t) hk ht ∙ ap₂ ◌+◌ (entry-is k (suc t) (omega arith) ht) (entry-is k t (omega arith) (omega arith))
 
-pub triangle-is : (k t : ℕ) → k < 33 → t < 33 → get_or triangle (33 * k + t) 0 ≡ binomial k t
+pub triangle-is : (k t : ℕ) → k < 33 → t < 33 → get_or (get_or triangle k []) t 0 ≡ binomial k t
 triangle-is = entry-is triangle refl
 
 -- A number of choices is told for k up to 32.
