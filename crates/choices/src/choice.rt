@@ -1,6 +1,6 @@
 // A choice of rows at its place in revolving-door order.
-ghost use Rattle.std.specs.Prelude.{◌≡◌, true};
-ghost use Rattle.choices.specs.Moves.{Steps};
+ghost use Rattle.std.specs.Prelude.{◌≡◌, ◌≤◌, true};
+ghost use Rattle.choices.specs.Moves.{is_choice, Steps};
 ghost use Rattle.choices.specs.Choosing.{chosen, FirstOr, AllChoices, OneExchanged};
 
 use crate::steps::step_rows;
@@ -58,9 +58,10 @@ impl Choice {
         self.t
     }
 
-    // The rows chosen.
+    // The rows chosen, which stand in R(k, t).
     pub fn rows(&self) -> &[usize]
         ensures value { result.now ≡ chosen self.now }
+        ensures stands { (self.now.k ≤ 32) × (self.now.t ≤ self.now.k) × (is_choice self.now.k self.now.t result.now ≡ true) }
     {
         &self.rows[..self.t]
     }

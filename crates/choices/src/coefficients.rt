@@ -1,7 +1,7 @@
 // The coefficients of the rows of a choice, at their place in order.
-ghost use Rattle.std.specs.Prelude.{◌≡◌};
+ghost use Rattle.std.specs.Prelude.{◌≡◌, ◌≤◌, true};
 ghost use Rattle.theory.specs.Visits.{coefficients as coefficient_lists};
-ghost use Rattle.choices.specs.Places.{StandsAt, Steps};
+ghost use Rattle.choices.specs.Places.{listed, StandsAt, Steps};
 ghost use Rattle.choices.specs.Coefficients.{codes_of, FirstListOr, AllLists};
 
 use crate::turns::step_codes;
@@ -46,9 +46,10 @@ impl Coefficients {
         })
     }
 
-    // The coefficients, that of the lowest row first.
+    // The coefficients, that of the lowest row first, which stand among all such lists.
     pub fn codes(&self) -> &[u8]
         ensures value { result.now ≡ codes_of self.now }
+        ensures stands { (self.now.t ≤ 32) × (2 ≤ self.now.q) × (listed (coefficient_lists self.now.q self.now.t) result.now ≡ true) }
     {
         &self.codes[..self.t]
     }

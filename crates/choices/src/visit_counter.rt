@@ -1,6 +1,6 @@
 // A visit counter: a place in a level, with the rows and the coefficients of the visit there.
 ghost use Rattle.std.specs.Prelude.{◌≡◌, ◌+◌, ◌-◌, ◌<◌, if◌then◌else◌, nat_lt};
-ghost use Rattle.choices.specs.Places.{Steps};
+ghost use Rattle.choices.specs.Places.{StandsAt, Steps};
 ghost use Rattle.choices.specs.Sizes.{level_size};
 ghost use Rattle.choices.specs.Choosing.{chosen};
 ghost use Rattle.choices.specs.Coefficients.{codes_of};
@@ -101,6 +101,7 @@ impl VisitCounter {
     // The number of rows of each visit: the level.
     pub fn level(&self) -> usize
         ensures value { result ≡ self.now.choice.t }
+        ensures same { result ≡ self.now.coefficients.t }
     {
         self.choice.size()
     }
@@ -108,6 +109,7 @@ impl VisitCounter {
     // How many visits of the level come before this one.
     pub fn place(&self) -> u64
         ensures value { result ≡ self.now.place }
+        ensures stands { StandsAt (level_visits self.now.choice.k self.now.choice.t self.now.coefficients.q) result (visit_of self.now) }
         ensures visit { IsVisit self.now.choice.k self.now.choice.t self.now.coefficients.q result (visit_of self.now) }
     {
         self.place
