@@ -10,5 +10,8 @@ returns-then-q-lt2-clause-all c = all_lists c.args.q c.args.t
 pub invariant_of-result : goal.invariant_of-result
 invariant_of-result c = (c.if-t-gt32.false, c.if-q-lt2.false, ones_listed c.args.q c.args.t c.if-q-lt2.false (omega (arith, c.if-t-eq0.false)) c.if-t-gt32.false)
 
-pub returns : goal.returns
-returns c = record { value = (grind (arith, nat_tests), refl, refl, ones_stand c.args.q c.args.t c.if-q-lt2.false (omega (arith, c.if-t-eq0.false)) c.if-t-gt32.false); all = all_lists c.args.q c.args.t }
+pub returns-clause-value : goal.returns-clause-value
+returns-clause-value c = (grind (arith, nat_tests), refl, refl, ones_stand c.args.q c.args.t c.if-q-lt2.false (omega (arith, c.if-t-eq0.false)) c.if-t-gt32.false)
+
+pub returns-clause-all : goal.returns-clause-all
+returns-clause-all c = all_lists c.args.q c.args.t
