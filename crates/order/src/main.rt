@@ -24,12 +24,12 @@ fn main(rt: HostRuntime) -> anyhow::Result<()> {
     let words: Vec<String> = env::args(&rt)?.skip(1).collect(rt.alloc())?;
     for (i, request) in words.split(|word| word.as_str() == "and").enumerate() {
         if i > 0 {
-            println!(&rt; "")?;
+            println!(rt; "")?;
         }
         match answer(&rt, request) {
             Ok(()) => {}
             Err(OrderError::Output(error)) => return Err(error.into()),
-            Err(refusal) => println!(&rt; "refused: {refusal}")?,
+            Err(refusal) => println!(rt; "refused: {refusal}")?,
         }
     }
     Ok(())
