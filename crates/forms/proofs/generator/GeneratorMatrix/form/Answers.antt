@@ -1,23 +1,15 @@
 -- What is asked where the columns are taken, and that the result is the form.
-use Rattle.std.proofs.Common.{◌≡◌, ℕ, ◌-◌, ◌*◌, ◌<◌, List, ◌++◌, length, take, drop, replicate, ap, ◌∙◌, mul-le-mul, arith}
-use Rattle.std.proofs.ByRecursion.{All-take}
+use Rattle.std.proofs.Common.{◌≡◌, ℕ, ◌-◌, ◌*◌, List, ◌++◌, length, take, drop, replicate, ap, ◌∙◌, mul-le-mul, arith}
 use Rattle.std.proofs.lemmas.List.{drop-replicate, length-replicate, length-take-le}
 use Rattle.forms.specs.FormRecords.{padded}
 use Rattle.forms.specs.ColumnMarks.{MarksUsed, marked_columns}
 use Rattle.forms.proofs.MarkedColumns.{marks_are_used}
-use Rattle.forms.proofs.FormMade.{positions-below, form-made}
+use Rattle.forms.proofs.FormMade.{form-made}
 use Rattle.forms.proofs.generator.GeneratorMatrix.form.Goals as goal
 
 -- Zeros stand behind what is written over the first of them.
 padded-front : (size : ℕ) (now : List ℕ) → length now ≡ size → now ++ drop size (replicate 2048 0) ≡ padded 2048 now
 padded-front size now long = ap (λ l. now ++ l) (drop-replicate size 2048 0 ∙ ap (λ m. replicate (2048 - m) 0) (omega arith))
-
-pub count_unmarked-rank-requires : goal.count_unmarked-rank-requires
-count_unmarked-rank-requires g c =
-    let rows = c.args.self.now.rows in
-    let columns : List ℕ = take rows.matrix.n c.order_columns-order.result in
-    let positions = c.eliminate.new.positions in
-    All-take (λ p. p < 64) rows.matrix.k positions (positions-below (g.met.F.Field.lawful rows.field.now) rows.coded columns positions 32 c.eliminate.result rows.narrow c.order_columns-order.ensures.columns c.eliminate.ensures.taken.1 c.eliminate.ensures.rest)
 
 pub returns : goal.returns
 returns g c =
