@@ -1,5 +1,5 @@
 // Why a field or a weight is refused.
-ghost use Rattle.std.specs.Prelude.{◌≡◌};
+ghost use Rattle.std.specs.Prelude.{◌≡◌, Some};
 ghost use Rattle.fields.specs.Refusals.{number, place};
 
 use std::error::Error;
@@ -37,6 +37,10 @@ impl FieldRefusal {
 }
 
 impl fmt::Display for FieldRefusal {
+    ghost use Rattle.fields.specs.Refusals.{text};
+
+    ghost output = { λ refusal. Some (text refusal) };
+
     fn fmt<W: fmt::Write>(&self, f: &mut fmt::Formatter<W>) -> fmt::Result {
         write!(f, "refused {} at {}", self.number(), self.place())
     }

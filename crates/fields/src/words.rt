@@ -1,5 +1,5 @@
 // Sums and multiples of words, in place.
-ghost use Rattle.std.specs.Prelude.{◌≡◌, length, MatchBool, MatchResult, ◌==◌, true, false};
+ghost use Rattle.std.specs.Prelude.{◌≡◌, length, MatchResult, Some, codes, ◌==◌, false};
 ghost use Rattle.theory.specs.Codes.{plus, times};
 
 use crate::field::Field;
@@ -11,6 +11,8 @@ use std::fmt;
 pub struct LengthsDiffer;
 
 impl fmt::Display for LengthsDiffer {
+    ghost output = { λ _. Some (codes "words of different lengths") };
+
     fn fmt<W: fmt::Write>(&self, f: &mut fmt::Formatter<W>) -> fmt::Result {
         f.write_str("words of different lengths")
     }

@@ -4,7 +4,6 @@ use Rattle.std.proofs.lemmas.List.{get_or-take}
 use Rattle.std.proofs.lemmas.Bool.{cases_eq}
 use Rattle.theory.specs.Meanings.{FieldMeaning, FieldLaws}
 use Rattle.theory.specs.Codes.{plus, times}
-use Rattle.theory.specs.Facts.{Independent}
 use Rattle.theory.proofs.Lists.Listed.{listed-from, listed-get_or}
 use Rattle.theory.proofs.Algebra.Scalars.{one_below, product-low, product_assoc_all, product_comm_all, distributes_right, zero-product, product-zero, sum_zero_right, inverse_left}
 use Rattle.theory.proofs.Algebra.Multiples.{get_or-times}
@@ -16,7 +15,6 @@ use Rattle.theory.proofs.Algebra.SameCode.{SameCode}
 use Rattle.theory.proofs.Algebra.RowSteps.{same_code-from}
 use Rattle.theory.proofs.Algebra.Reduced.{Reduced}
 use Rattle.theory.proofs.Algebra.ReducedSteps.{reduced-zero}
-use Rattle.theory.proofs.Algebra.Independence.{independent_kept}
 use Rattle.forms.specs.RowSteps.{clearing_factor, cleared_row}
 
 -- Every row but p has gained a multiple of row p, and row p is as it was.
@@ -97,9 +95,6 @@ module _ {f : FieldMeaning} {negative inverse : ℕ → ℕ} (laws : FieldLaws f
 
   pub gained_same_code : SameCode f n rows gens
   gained_same_code = same_code-from laws R gens gained_rows g.as_many (λ i l. gained_made i (omega (arith, g.as_many))) gained_back
-
-  pub independent_gained : Independent f n rows → Independent f n gens
-  independent_gained = independent_kept laws gained_rows R (record { as_many = sym g.as_many; there = gained_same_code.back; back = gained_same_code.there })
 
   -- The places where the rows are reduced, before row p, stay so.
   pub gained_reduced : (ps : List ℕ) → Reduced rows ps → length ps ≤ p → Reduced gens ps

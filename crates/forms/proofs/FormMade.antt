@@ -2,8 +2,7 @@
 use Rattle.std.proofs.Common.{◌≡◌, ℕ, zero, suc, ◌+◌, ◌-◌, ◌*◌, ◌<◌, ◌≤◌, Bool, not, List, [], ◌++◌, length, take, drop, replicate, filter, sym, ap, ◌∙◌, subst, ap₂, inl, inr, suc-mul, zero-mul, add-one, arith}
 use Rattle.std.specs.List.{flat_map, AllByRecursion}
 use Rattle.std.proofs.lemmas.List.FromFn.{map-range_with_len_more}
-use Rattle.std.proofs.ByRecursion.{All-append, All-drop, All-from_get_or, All-weaker}
-use Rattle.std.proofs.lemmas.List.{flat_map_more, take-take, drop-take, take-append-drop, take_all, take_at, drop_at, drop-replicate, get_or-replicate, length-replicate, length-take}
+use Rattle.std.proofs.lemmas.List.{flat_map_more, take-take, drop-take, take-append-drop, take_all, drop-replicate, length-take}
 use Rattle.theory.specs.Meanings.{FieldMeaning, FieldLaws}
 use Rattle.theory.specs.Forms.{pick, form}
 use Rattle.theory.specs.Facts.{Matrix, Independent}
@@ -40,16 +39,6 @@ module _ (n : ℕ) (codes : List ℕ) where
   pub joined-rows : (k : ℕ) → length codes ≡ k * n → flat_map (λ row. row) (rows_of k n codes) ≡ codes
   joined-rows k e = joined_taken k ∙ take_all (k * n) codes (omega arith)
 
--- Of codes with zeros behind them the first places are the codes.
-pub part_of-padded : (m size : ℕ) (codes rows : List ℕ) → length codes ≡ size → rows ≡ padded m codes → take size rows ≡ codes
-part_of-padded m size codes rows e p = ap (take size) p ∙ take_at codes (replicate (m - length codes) 0) size e
-
--- When other codes of the same number are written there, they have zeros behind them.
-pub padded-after : (m size : ℕ) (codes rows now : List ℕ) → length codes ≡ size → length now ≡ size → rows ≡ padded m codes → now ++ drop size rows ≡ padded m now
-padded-after m size codes rows now e long p =
-    let same : m - length codes ≡ m - length now = omega arith in
-    ap (λ l. now ++ l) (ap (drop size) p ∙ drop_at codes (replicate (m - length codes) 0) size e ∙ ap (λ x. replicate x 0) same)
-
 -- A list that has zeros from place r on is its first r places with zeros behind them.
 padded-front : (m r : ℕ) (xs : List ℕ) → length (take r xs) ≡ r → drop r xs ≡ drop r (replicate m 0) → xs ≡ padded m (take r xs)
 padded-front m r xs count rest =
@@ -66,16 +55,6 @@ module _ {f : FieldMeaning} {negative inverse : ℕ → ℕ} (laws : FieldLaws f
 
   picked-below : (columns : List ℕ) → AllByRecursion (λ c. c < n) columns → AllByRecursion (λ c. c < n) (pick f rows [] columns)
   picked-below columns below = all_from-in (λ c. c < n) (pick f rows [] columns) (λ p m. elim ((pick-picked laws R columns).from p m) [ inl z ↦ absurd z | inr z ↦ all_in (λ c. c < n) columns below p z ])
-
-  -- Positions that were taken in an array of zeros are below 64.
-  pub positions-below : (columns positions : List ℕ) (m r : ℕ) → n ≤ 64 → AllByRecursion (λ c. c < n) columns → take r positions ≡ pick f rows [] columns → drop r positions ≡ drop r (replicate m 0) → AllByRecursion (λ c. c < 64) positions
-  positions-below columns positions m r few below taken rest =
-      let low : ℕ → Type 0 = λ c. c < 64 in
-      let zeros : AllByRecursion low (replicate m 0) = All-from_get_or low (replicate m 0) 0 (λ i h. subst low (sym (get_or-replicate m i 0 0 (omega (arith, length-replicate {A = ℕ} m 0)))) (omega arith)) in
-      subst (AllByRecursion low) (take-append-drop r positions)
-      (All-append low (take r positions) (drop r positions)
-      (subst (AllByRecursion low) (sym taken) (All-weaker (λ c. c < n) low (λ c h. omega arith) (pick f rows [] columns) (picked-below columns below)))
-      (subst (AllByRecursion low) (sym rest) (All-drop low r (replicate m 0) zeros)))
 
   module _ (I : Independent f n rows) (marks : List Bool) (used : List ℕ) (agree : MarksUsed n marks used) where
     -- Rows from which the columns of that order were taken are those of the form, and so are the positions.

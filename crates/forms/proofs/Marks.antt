@@ -5,9 +5,9 @@ use Rattle.std.specs.List.{range_with_len, AllByRecursion}
 use Rattle.std.proofs.lemmas.List.FromFn.{length-range_with_len, get_or-map-range_with_len, length-map-range_with_len}
 use Rattle.std.proofs.lemmas.List.Elements.{filter-append}
 use Rattle.std.proofs.ByRecursion.{All-append, all_kept_by, All-map}
-use Rattle.std.proofs.lemmas.List.Filters.{length-filter_both, length-filter_more}
+use Rattle.std.proofs.lemmas.List.Filters.{length-filter_both}
 use Rattle.std.proofs.lemmas.List.{take_more, take_more_set, length_push, get_or-map}
-use Rattle.std.proofs.lemmas.Bool.{cases_Bool, cases_eq, cond-true, cond-false, cond_both, eq-eqb, ne_eqb, not_from_true, not_from_false, or_from, or_right}
+use Rattle.std.proofs.lemmas.Bool.{cases_Bool, cases_eq, cond-true, cond-false, eq-eqb, ne_eqb, not_from_true, not_from_false, or_from, or_right}
 use Rattle.theory.specs.Codes.{any, is_zero}
 use Rattle.theory.specs.Forms.{among, column}
 use Rattle.theory.proofs.Lists.Countings.{counting_push, all_counting}
@@ -93,11 +93,6 @@ module _ (n : ℕ) (marks : List Bool) where
 -- The count of those of the first i positions that are not marked.
 abbrev pub Counted : List Bool → List ℕ → ℕ → ℕ → Type 0
 Counted marks ps i count = (count ≡ length (filter (λ p. not (marked marks p)) (take i ps))) × (count ≤ i)
-
-pub counted-more : (marks : List Bool) (ps : List ℕ) (i p count : ℕ) → i < length ps → p ≡ get_or ps i 0 → Counted marks ps i count → Counted marks ps (i + 1) (count + cond (not (marked marks p)) 1 0)
-counted-more marks ps i p count h e t =
-    let more = length-filter_more (λ p. not (marked marks p)) ps i 0 h in
-    (omega (arith, more, ap {B = ℕ} (λ q. cond (not (marked marks q)) 1 0) e), cond_both (not (marked marks p)) 1 0 (λ m. count + m ≤ i + 1) (λ _. omega arith) (λ _. omega arith))
 
 -- The columns ps are marked too, and the other marks are as they were.
 abbrev pub MarkedToo : List Bool → List ℕ → List Bool → Type 0

@@ -85,10 +85,6 @@ module _ {f : FieldMeaning} {negative inverse : ℕ → ℕ} (laws : FieldLaws f
     picks = pick_full f rows ps rest full ∙ sym (pick_full f rows ps (c ∷ rest) full) ∙ t.picks;
   }
 
-  -- The positions taken are those of `pick` when they are as many as the rows,
-  pub picking_full : {all : List ℕ} {gens : List (List ℕ)} {ps rest : List ℕ} → Picking f n rows all gens ps rest → length ps ≡ length rows → ps ≡ pick f rows [] all
-  picking_full {ps = ps} {rest} t e = sym (pick_full f rows ps rest (omega arith)) ∙ t.picks
-
   -- and at the end of the columns.
   pub picking_ends : {all : List ℕ} {gens : List (List ℕ)} {ps : List ℕ} → Picking f n rows all gens ps [] → ps ≡ pick f rows [] all
   picking_ends t = t.picks

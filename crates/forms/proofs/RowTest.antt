@@ -1,10 +1,9 @@
 -- Which row is the first that depends on the rows before it, told by an elimination without exchanges.
-use Rattle.std.proofs.Common.{◌≡◌, ℕ, zero, suc, ◌<◌, ◌≤◌, min, List, [], ◌∷◌, ◌++◌, length, get_or, take, set, replicate, sym, refl, ap, ◌∙◌, subst, subst₂, inl, inr, arith, length-set, length-take}
-use Rattle.std.proofs.lemmas.List.{ext_get_or, get_or-take, get_or-set_other, take_all, length_push, length-replicate}
+use Rattle.std.proofs.Common.{◌≡◌, ℕ, zero, suc, ◌<◌, ◌≤◌, min, List, [], ◌∷◌, ◌++◌, length, get_or, take, set, replicate, sym, refl, ap, ◌∙◌, subst, inl, inr, arith, length-set, length-take}
+use Rattle.std.proofs.lemmas.List.{ext_get_or, get_or-take, get_or-set_other, length_push, length-replicate}
 use Rattle.std.proofs.lemmas.Bool.{cases_lt}
 use Rattle.theory.specs.Meanings.{FieldMeaning, FieldLaws}
 use Rattle.theory.specs.Codes.{plus, times, combination, codewords, is_zero}
-use Rattle.theory.specs.Facts.{Independent}
 use Rattle.theory.specs.Theorems.{dependent}
 use Rattle.theory.proofs.Lists.Truths.{same_truth}
 use Rattle.theory.proofs.Lists.Zeros.{get_or_zeros, is_zero_decides, is_zero-replicate}
@@ -18,7 +17,6 @@ use Rattle.theory.proofs.Algebra.SameCode.{SameCode, made_through}
 use Rattle.theory.proofs.Algebra.RowSteps.{same_code-from, same_code-refl, same_code_then}
 use Rattle.theory.proofs.Algebra.Reduced.{Reduced, reduced_symbol}
 use Rattle.theory.proofs.Algebra.ReducedSteps.{reduced-zero}
-use Rattle.theory.proofs.Algebra.Independence.{independent_kept, independent-reduced}
 use Rattle.forms.proofs.Clearing.{Gained, gained_take, plus-back}
 use Rattle.forms.proofs.Pivoting.{scaled, pivoted_length, pivoted_rows, pivoted_same_code, pivoted_reduced}
 
@@ -89,11 +87,6 @@ module _ {f : FieldMeaning} {negative inverse : ℕ → ℕ} (laws : FieldLaws f
     front = same_code-refl f n (take 0 rows);
     rest = λ m h l. (replicate n 0, made-zero laws (rows_take R 0), sym (plus-zero laws (listed-get_or [] R m l)));
   }
-
-  pub tested_all : {gens : List (List ℕ)} {ps : List ℕ} → Tested f n rows gens (length rows) ps → Independent f n rows
-  tested_all {gens} {ps} t = independent_kept laws R t.words
-      (subst₂ (SameCode f n) (take_all (length rows) rows (omega arith)) (take_all (length rows) gens (omega (arith, t.as_many))) t.front)
-      (independent-reduced laws t.words ps (t.count ∙ sym t.as_many) t.reduced)
 
   -- Row i of the rows now is 0 exactly if row i depends on those before it: made from rows reduced at the columns picked, it has its coefficients there, and they are 0.
   pub tested_tells : {gens : List (List ℕ)} {i : ℕ} {ps : List ℕ} → Tested f n rows gens i ps → i < length rows → is_zero (get_or gens i []) ≡ dependent f n rows i

@@ -1,11 +1,17 @@
 -- When a step of an elimination fits its matrix, and what it keeps.
-use Rattle.std.specs.Prelude.{ℕ, ◌*◌, Bool, cond, ◌&&◌, List, length, Some, None, Option, ◌==◌, nat_le, nat_lt}
+use Rattle.std.specs.Prelude.{ℕ, ◌*◌, Bool, cond, ◌&&◌, List, length, Some, None, Option, ◌==◌, nat_le, nat_lt, codes}
 use Rattle.theory.specs.Meanings.{FieldMeaning}
 use Rattle.theory.specs.Facts.{Matrix, Independent}
 use Rattle.forms.specs.Matrices.{symbol_at}
 use Rattle.forms.specs.Elimination.{SameCodewords}
 use Rattle.forms.specs.declared.step_refusal.StepRefusal.{StepRefusal}
 use Rattle.forms.specs.declared.step_refusal.StepRefusal.TheVariants.{NoRow, NoPivot, TooWide}
+
+-- What is printed of a refusal.
+abbrev pub step_text : StepRefusal → List ℕ
+step_text NoRow = codes "no such row"
+step_text NoPivot = codes "no pivot in the column"
+step_text TooWide = codes "rows of more than 64 codes"
 
 -- The codes are k rows of n codes, of which i is one.
 abbrev pub has_row : ℕ → ℕ → List ℕ → ℕ → Bool
@@ -18,10 +24,6 @@ both_rows k n codes i j = has_row k n codes i && has_row k n codes j
 -- Row i has a nonzero symbol in column c.
 abbrev pub has_pivot : ℕ → ℕ → List ℕ → ℕ → ℕ → Bool
 has_pivot k n codes i c = has_row k n codes i && nat_lt c n && nat_lt 0 (symbol_at n codes i c)
-
--- The column can be cleared by that row.
-abbrev pub clearable : ℕ → ℕ → List ℕ → ℕ → ℕ → Bool
-clearable k n codes p c = nat_le n 64 && has_pivot k n codes p c
 
 -- Why a row that is asked for is refused: the codes are no such matrix, or have no such row.
 abbrev pub row_fault : ℕ → ℕ → List ℕ → ℕ → Option StepRefusal

@@ -1,5 +1,6 @@
 -- The number and the place of each refusal of a matrix, and which comes first.
-use Rattle.std.specs.Prelude.{◌≡◌, ℕ, zero, suc, ◌*◌, Bool, true, cond, not, ◌&&◌, leb, List, length, drop, is_some, Some, None, Ok, Err, Option, Result, ◌==◌, nat_le, nat_lt, slice_index}
+use Rattle.std.specs.Prelude.{◌≡◌, ℕ, zero, suc, ◌*◌, Bool, true, cond, not, ◌&&◌, leb, List, length, drop, is_some, Some, None, Ok, Err, Option, Result, ◌==◌, nat_le, nat_lt, slice_index, ◌++◌, codes}
+use Rattle.std.specs.Fmt.{decimal}
 use Rattle.theory.specs.Meanings.{FieldMeaning}
 use Rattle.theory.specs.Theorems.{dependent}
 use Rattle.forms.specs.Matrices.{rows_of}
@@ -21,6 +22,10 @@ place Length = 0
 place (NoCode i) = i
 place Scratch = 0
 place (DependentRow i) = i
+
+-- What is printed of a refusal: its number and its place.
+abbrev pub text : FormsRefusal → List ℕ
+text r = codes "refused " ++ (decimal (number r) ++ (codes " at " ++ decimal (place r)))
 
 -- The least number below m that passes a test.
 abbrev pub first_below : (ℕ → Bool) → ℕ → Option ℕ

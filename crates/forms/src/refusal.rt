@@ -1,5 +1,5 @@
 // Why a matrix is refused.
-ghost use Rattle.std.specs.Prelude.{◌≡◌};
+ghost use Rattle.std.specs.Prelude.{◌≡◌, Some};
 ghost use Rattle.forms.specs.Refusals.{number, place};
 
 use std::error::Error;
@@ -41,6 +41,10 @@ impl FormsRefusal {
 }
 
 impl fmt::Display for FormsRefusal {
+    ghost use Rattle.forms.specs.Refusals.{text};
+
+    ghost output = { λ refusal. Some (text refusal) };
+
     fn fmt<W: fmt::Write>(&self, f: &mut fmt::Formatter<W>) -> fmt::Result {
         write!(f, "refused {} at {}", self.number(), self.place())
     }

@@ -1,4 +1,6 @@
 // Why a step of an elimination does not fit its matrix.
+ghost use Rattle.std.specs.Prelude.{Some};
+
 use std::error::Error;
 use std::fmt;
 
@@ -13,6 +15,10 @@ pub enum StepRefusal {
 }
 
 impl fmt::Display for StepRefusal {
+    ghost use Rattle.forms.specs.MatrixSteps.{step_text};
+
+    ghost output = { λ refusal. Some (step_text refusal) };
+
     fn fmt<W: fmt::Write>(&self, f: &mut fmt::Formatter<W>) -> fmt::Result {
         f.write_str(match self {
             StepRefusal::NoRow => "no such row",
