@@ -1,8 +1,7 @@
 // Reads entry texts from standard input and prints a line for each entry, and for the first fault.
 #![tactic(auto)]
 
-use anyhow::anyhow;
-use entries::{EntryReader, FieldName, Header, MOST_BYTES, MOST_CODES, TextRefusal, WeightName};
+use entries::{EntryReader, FieldName, Header, MOST_BYTES, MOST_CODES, WeightName};
 use fields::{Field, Gf4, Hamming, Lee, PrimeField, SymbolWeight};
 use std::io;
 use std::io::Read;
@@ -18,12 +17,12 @@ fn main(rt: HostRuntime) -> anyhow::Result<()> {
         .take(MOST_BYTES as u64 + 1)
         .read_to_end(&mut text)?;
     let mut codes = [0; MOST_CODES];
-    let mut reader = EntryReader::new(text.as_slice());
+    let mut reader = EntryReader::new(&text);
     for number in 1..TURNS {
         match reader.next_entry(&mut codes) {
             Ok(Some(header)) => with_field(&rt, number, header)?,
-            Ok(None) => return Ok(()),
-            Err(refusal) => return Ok(print_refusal(&rt, refusal)?),
+            Ok(None) => break,
+            Err(refusal) => return Ok(println!(rt; "{refusal}")?),
         }
     }
     Ok(())
@@ -31,12 +30,9 @@ fn main(rt: HostRuntime) -> anyhow::Result<()> {
 
 // Takes the field that an entry names.
 fn with_field(rt: &HostRuntime, number: u32, header: Header) -> anyhow::Result<()> {
-    if header.field == FieldName::Gf4 {
-        return with_weight(rt, number, header, &Gf4);
-    }
-    match PrimeField::new(header.field.order()) {
-        Ok(field) => with_weight(rt, number, header, &field),
-        Err(_) => Err(anyhow!("no such prime field")),
+    match header.field {
+        FieldName::Gf4 => with_weight(rt, number, header, &Gf4),
+        prime => with_weight(rt, number, header, &PrimeField::new(prime.order())?),
     }
 }
 
@@ -47,16 +43,12 @@ fn with_weight<F: Field>(
     header: Header,
     field: &F,
 ) -> anyhow::Result<()> {
+    let order = field.order();
     match header.weight {
-        WeightName::Hamming => match Hamming::new(field.order()) {
-            Ok(weight) => Ok(print_entry(rt, number, header, field, &weight)?),
-            Err(_) => Err(anyhow!("no such hamming weight")),
-        },
-        WeightName::Lee => match Lee::new(field.order()) {
-            Ok(weight) => Ok(print_entry(rt, number, header, field, &weight)?),
-            Err(_) => Err(anyhow!("no such lee weight")),
-        },
+        WeightName::Hamming => print_entry(rt, number, header, field, &Hamming::new(order)?)?,
+        WeightName::Lee => print_entry(rt, number, header, field, &Lee::new(order)?)?,
     }
+    Ok(())
 }
 
 // The line of an entry, with the order of the field taken and the word of the weight.
@@ -67,18 +59,13 @@ fn print_entry<F: Field, W: SymbolWeight>(
     field: &F,
     weight: &W,
 ) -> io::Result<()> {
-    let n = header.n;
-    let k = header.k;
-    let claim = header.claim;
+    let Header {
+        n,
+        k,
+        claim,
+        weight: word,
+        ..
+    } = header;
     let order = field.order().min(weight.order());
-    let word = header.weight.word();
     println!(rt; "entry {number} read: n {n} k {k} claim {claim} GF({order}) {word}")
-}
-
-// The last line of a text that is refused.
-fn print_refusal(rt: &HostRuntime, refusal: TextRefusal) -> io::Result<()> {
-    let number = refusal.number();
-    let line = refusal.line();
-    let column = refusal.column();
-    println!(rt; "text refused {number} line {line} column {column}")
 }

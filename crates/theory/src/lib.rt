@@ -8,123 +8,76 @@ ghost use Rattle.theory.specs.Visits.{choices, Choice};
 ghost use Rattle.theory.specs.Standings.{LinearCode, bound};
 ghost use Rattle.theory.specs.Promises.{BoundsRest, Sound};
 ghost use Rattle.theory.specs.Facts.{Accepted};
-ghost use Rattle.theory.specs.Calls.{SearchCall, run, start, SoundRuns, CountsWhatItVisits};
+ghost use Rattle.theory.specs.Calls.{SearchCall, run, start, CountsWhatItVisits};
 ghost use Rattle.theory.specs.Worked.{code74, WorkedFigures};
-ghost use Rattle.theory.specs.Theorems.{CodewordsOnce, SystematicForms, NewPositionsDisjoint, ChoicesOnce, LevelsMeetOnce, OneLeads, IndependentRows, AnswersAlike, EqualFields, EqualWeights};
+ghost use Rattle.theory.specs.Theorems.{CodewordsOnce, SystematicForms, NewPositionsDisjoint, LevelsMeetOnce, OneLeads, IndependentRows, AnswersAlike, EqualFields, EqualWeights};
 
 // The promise: for every accepted code, after every list of calls, what a search then answers is true of the code.
-pub fn promise_stands() -> u8
+pub fn promise_stands()
     ensures { (c : LinearCode) (negative inverse : ℕ → ℕ) → Accepted c negative inverse → (slots : ℕ) (calls : List SearchCall) → Sound c (run c (start c slots) calls) }
-{
-    promise_proved()
-}
+{}
 
 // Of the promise, the bound: after every list of calls a codeword that is not yet counted weighs at least the bound.
-pub fn bound_stands() -> u8
+pub fn bound_stands()
     ensures { (c : LinearCode) (negative inverse : ℕ → ℕ) → Accepted c negative inverse → (slots : ℕ) (calls : List SearchCall) → BoundsRest c (run c (start c slots) calls).standing (bound c (run c (start c slots) calls).standing) }
-{
-    bound_proved()
-}
+{}
 
 // Over every run the line of a nonzero codeword was counted exactly once by the visits made if the codeword is counted, and else never.
-pub fn counts_what_it_visits() -> u8
+pub fn counts_what_it_visits()
     ensures { (c : LinearCode) (negative inverse : ℕ → ℕ) → Accepted c negative inverse → CountsWhatItVisits c }
-{
-    0
-}
+{}
 
 // The list that is counted has the codewords of the code only, and each exactly once.
-pub fn codewords_once() -> u8
+pub fn codewords_once()
     ensures { (c : LinearCode) (negative inverse : ℕ → ℕ) → Accepted c negative inverse → CodewordsOnce c }
-{
-    0
-}
+{}
 
 // Each form of an accepted code generates it in systematic form, and its rank counts the positions that no earlier form has.
-pub fn forms_are_systematic() -> u8
+pub fn forms_are_systematic()
     ensures { (c : LinearCode) (negative inverse : ℕ → ℕ) → Accepted c negative inverse → SystematicForms c }
-{
-    0
-}
+{}
 
 // A new position of a form stands in no earlier form, no position is new in two forms, and each rank is the number of new positions.
-pub fn new_positions_disjoint() -> u8
+pub fn new_positions_disjoint()
     ensures { (c : LinearCode) (negative inverse : ℕ → ℕ) → Accepted c negative inverse → NewPositionsDisjoint c }
-{
-    0
-}
+{}
 
 // R(k, t) holds every choice of t rows out of k, each exactly once, and nothing else.
-pub fn choices_once() -> u8
+pub fn choices_once()
     ensures { (k t : ℕ) → Exactly (Choice k t) (choices k t) }
-{
-    choices_proved()
-}
+{}
 
 // Level t of a form visits codewords of message weight t only, and meets each line of that message weight exactly once.
-pub fn levels_meet_once() -> u8
+pub fn levels_meet_once()
     ensures { (c : LinearCode) (negative inverse : ℕ → ℕ) → Accepted c negative inverse → LevelsMeetOnce c }
-{
-    0
-}
+{}
 
 // Rows are independent exactly if none is a sum of multiples of the rows before it, the first row if it is not zero.
-pub fn independent_rows() -> u8
+pub fn independent_rows()
     ensures { (f : FieldMeaning) (negative inverse : ℕ → ℕ) → FieldLaws f negative inverse → IndependentRows f }
-{
-    0
-}
+{}
 
 // Each line over a field has exactly one leader.
-pub fn one_leads() -> u8
+pub fn one_leads()
     ensures { (f : FieldMeaning) (negative inverse : ℕ → ℕ) → FieldLaws f negative inverse → OneLeads f }
-{
-    0
-}
+{}
 
 // Two searches of equal codes at equal levels, none open, answer every call alike, and a raise leaves them in equal standings.
-pub fn answers_alike() -> u8
+pub fn answers_alike()
     ensures { AnswersAlike }
-{
-    0
-}
+{}
 
 // Fields, and symbol weights, that agree below their orders have equal records.
-pub fn equal_meanings() -> u8
+pub fn equal_meanings()
     ensures { EqualFields × EqualWeights }
-{
-    0
-}
+{}
 
 // There is something to promise: the binary [7, 4] code is accepted, with the laws of its field and its weight.
-pub fn code74_accepted() -> u8
+pub fn code74_accepted()
     ensures { Accepted code74 (read_below 2) (read_below 2) }
-{
-    0
-}
+{}
 
 // The worked figures of two small codes, as the definitions compute them.
-pub fn worked_figures() -> u8
+pub fn worked_figures()
     ensures { WorkedFigures }
-{
-    0
-}
-
-// Three of the theorems above as their proofs give them: the public functions hand them on.
-fn promise_proved() -> u8
-    ensures { (c : LinearCode) (negative inverse : ℕ → ℕ) → Accepted c negative inverse → SoundRuns c }
-{
-    0
-}
-
-fn bound_proved() -> u8
-    ensures { (c : LinearCode) (negative inverse : ℕ → ℕ) → Accepted c negative inverse → (slots : ℕ) (ks : List SearchCall) → BoundsRest c (run c (start c slots) ks).standing (bound c (run c (start c slots) ks).standing) }
-{
-    0
-}
-
-fn choices_proved() -> u8
-    ensures { ChoicesOnce }
-{
-    0
-}
+{}
