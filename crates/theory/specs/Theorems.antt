@@ -4,7 +4,7 @@ use Rattle.std.specs.List.{AllByRecursion}
 use Rattle.theory.specs.Meanings.{FieldMeaning, FieldLaws, WeightMeaning, WeightLaws}
 use Rattle.theory.specs.Codes.{same, Exactly, any, codewords, multiples, on_line, is_zero, leads}
 use Rattle.theory.specs.Forms.{GeneratorForm}
-use Rattle.theory.specs.Visits.{choices, binomial, Choice, visits}
+use Rattle.theory.specs.Visits.{binomial, visits}
 use Rattle.theory.specs.Standings.{LinearCode, message_weight, all_forms}
 use Rattle.theory.specs.Promises.{Below, Codeword, SearchState}
 use Rattle.theory.specs.Facts.{Matrix, Independent, Systematic, Ranked, NewPositions}
@@ -21,10 +21,6 @@ SystematicForms c = AllByRecursion (Systematic c) (all_forms c) × Ranked [] (al
 -- The new positions of a code's forms: what each rank counts, and no position is new in two forms.
 abbrev pub NewPositionsDisjoint : LinearCode → Type 0
 NewPositionsDisjoint c = NewPositions (all_forms c)
-
--- R(k, t) holds the choices of t rows out of k, and each exactly once.
-abbrev pub ChoicesOnce : Type 0
-ChoicesOnce = (k t : ℕ) → Exactly (Choice k t) (choices k t)
 
 -- Level t of a form: how many visits it has; that each visits a codeword of message weight t; and that it meets the line of a codeword exactly once if the message weight is t, and else never.
 pub record LevelMeets (c : LinearCode) (j : GeneratorForm) (t : ℕ) : Type 0 where
