@@ -1,8 +1,8 @@
 -- What the header and the end of an entry bring: the entry's figures, its end, or its first fault.
-use Rattle.std.proofs.Common.{◌≡◌, ℕ, suc, ◌+◌, ◌<◌, ◌≤◌, min, true, leb, ◌⊎◌, List, [], ◌∷◌, length, get_or, drop, Some, None, Ok, Err, Option, Result, sym, refl, ap, ◌∙◌, inl, inr, ⊎_elim, suc-le-suc, zero-le, not-suc-le-zero, add-zero, arith}
+use Rattle.std.proofs.Common.{◌≡◌, ℕ, suc, ◌+◌, ◌<◌, ◌≤◌, min, true, leb, ◌⊎◌, List, [], ◌∷◌, length, get_or, drop, Some, None, Ok, Err, Option, Result, sym, refl, ap, ◌∙◌, subst, inl, inr, ⊎_elim, suc-le-suc, zero-le, not-suc-le-zero, add-zero, arith}
+use Rattle.std.specs.Option.{MatchOption}
 use Rattle.std.proofs.lemmas.Bool.{leb-true, le-leb, cases_Bool, cond-true, cond-false}
 use Rattle.entries.specs.declared.header.Header.{Header}
-use Rattle.entries.specs.declared.header.HeaderWords.{HeaderWords}
 use Rattle.entries.specs.declared.part.Due.{Due}
 use Rattle.entries.specs.declared.part.Part.{Part}
 use Rattle.entries.specs.declared.reader.PartReader.{PartReader}
@@ -11,6 +11,7 @@ use Rattle.entries.specs.declared.refusal.TextRefusal.TheVariants.{TooLong}
 use Rattle.entries.specs.Lines.{words}
 use Rattle.entries.specs.Headers.{header_reading}
 use Rattle.entries.specs.Parts.{Content, header_part, gap_part, header_answer, next_part, content, handed, due_after, header_due}
+use Rattle.entries.specs.HeaderReads.{HeaderRead, HeaderPassed}
 use Rattle.entries.specs.Entries.{end_fault, rows_fault, unless, entry_after, next_entry}
 use Rattle.entries.specs.Readers.{text_of, left, part_answer, answer_between, After}
 
@@ -84,16 +85,26 @@ module _ (r : PartReader) (due : header_due r.due ≡ true) where
   header_refused f value =
       ⊎_elim (λ d. d.2 ∙ header_fails (left r) (r.passed + 1) f (value ∙ at-header d.1)) (λ d. let clash : Err f ≡ Err TooLong = value ∙ d.0 in let same : f ≡ TooLong = cc in d.1 ∙ ap Err (sym same)) (decided r)
 
--- no other part has the content of a header
-pub only-header : (p : Part) (ws : List (List ℕ)) (v : Header) → content p ≡ header_part ws v → ((w : HeaderWords) (h : Header) (i : ℕ) → p ≡ Part.Header w h i → ⊥) → ⊥
-only-header (Part.Header w h i) ws v e other = other w h i refl
-only-header (Part.Row s i c) ws v e other = let z : ◌≡◌ {A = ℕ} 0 1 = cc in omega arith
-only-header (Part.Gap i c) ws v e other = let z : ◌≡◌ {A = ℕ} 0 1 = cc in omega arith
+-- the header of a part
+abbrev HeaderIn : Part → Option Header → Type 0
+HeaderIn p q = MatchOption q ((ws : List (List ℕ)) (h : Header) → content p ≡ header_part ws h → ⊥) (λ h. (ws : List (List ℕ)) × (content p ≡ header_part ws h))
+
+-- the header of the part that comes, or the end
+module _ (r s : PartReader) (due : header_due r.due ≡ true) (P : Part → Type 0) where
+  pub header_found : (o : Option Part) (q : Option Header) → handed (Ok o) ≡ part_answer r → After r (handed (Ok o)) s → MatchOption o (q ≡ None) P → ((p : Part) → P p → HeaderIn p q) → HeaderRead r (Ok q) × HeaderPassed r (Ok q) s
+  header_found None None value after is in_part = (no_part r due value, tt)
+  header_found None (Some h) value after is in_part = absurd (let z : ◌≡◌ {A = ℕ} 0 1 = cc in omega arith)
+  header_found (Some p) None value after is in_part =
+      let got = part_is-header r due (Some p) p value refl in absurd (in_part p is _ _ got.1.2)
+  header_found (Some p) (Some h) value after is in_part =
+      let got = part_is-header r due (Some p) p value refl in
+      let found = in_part p is in
+      let same : header_part found.0 h ≡ header_part (words (get_or (left r) 0 [])) got.1.0 = sym found.1 ∙ got.1.2 in
+      let says : h ≡ got.1.0 = cc in
+      let past = subst (λ (x : Content). After r (Ok (Some x)) s) found.1 after in
+      ((got.0, got.1.1, got.1.3 ∙ ap Ok (sym says)), (past.0, past.1, past.2))
 
 -- where the end of an entry is due
-pub end-answer : (r : PartReader) → length (text_of r) ≤ 60000 → r.due ≡ Due.Ending → part_answer r ≡ next_part Due.Ending (left r) (r.passed + 1)
-end-answer r few due = cond-true (leb (length (text_of r)) 60000) _ _ (le-leb _ _ few) ∙ ap (λ (d : Due). next_part d (left r) (r.passed + 1)) due
-
 pub end-comes : (ls : List (List ℕ)) (i : ℕ) (o : Option Content) → Ok o ≡ next_part Due.Ending ls i → end_fault ls i ≡ None
 unfolding next_part
 end-comes [] i o e = refl

@@ -1,13 +1,15 @@
 -- What is known of a header that was read.
 use Rattle.std.proofs.Common.{◌≡◌, ℕ, ◌*◌, ◌≤◌, true, cond, leb, List, [], get_or, Some, None, Ok, Err, Option, Result, sym, refl, ap, ◌∙◌, ⊎_elim, arith}
+use Rattle.std.specs.Option.{ok_or}
 use Rattle.std.proofs.lemmas.Bool.{and_parts, leb-true, cases_Bool, cond-true, cond-false}
 use Rattle.entries.specs.declared.header.Header.{Header}
+use Rattle.entries.specs.declared.names.FieldName.{FieldName}
 use Rattle.entries.specs.declared.refusal.TextRefusal.{TextRefusal}
-use Rattle.entries.specs.declared.refusal.TextRefusal.TheVariants.{HeaderShape}
+use Rattle.entries.specs.declared.refusal.TextRefusal.TheVariants.{HeaderShape, UnknownWeight, OutsideLimits}
 use Rattle.entries.specs.Lines.{words}
 use Rattle.entries.specs.Names.{top, field_named, weight_named}
 use Rattle.entries.specs.Numbers.{number_of}
-use Rattle.entries.specs.Headers.{header_shaped, within_limits, given, values_of, header_reading}
+use Rattle.entries.specs.Headers.{header_shaped, word_column, within_limits, given, values_of, header_reading}
 
 -- the value with which a reading went on
 abbrev Went : {A : Type 0} → Option A → (A → Result Header TextRefusal) → Header → Type 0
@@ -77,3 +79,13 @@ limits_of h e =
 
 pub header-limits : (l : List ℕ) (i : ℕ) (h : Header) → header_reading l i ≡ Ok h → Limits h
 header-limits l i h e = limits_of h (header_says l i h e).1.limits
+
+-- a value that was there
+pub some_of : {A : Type 0} (o : Option A) (f : TextRefusal) (x : A) → Ok x ≡ ok_or o f → o ≡ Some x
+some_of None f x e = absurd (let z : ◌≡◌ {A = ℕ} 0 1 = cc in omega arith)
+some_of (Some y) f x e = cc
+
+-- the words of a header that are numbers and name a field
+module _ (ws : List (List ℕ)) (i n k claim : ℕ) (field : FieldName) (n_word : number_of (get_or ws 1 []) ≡ Some n) (k_word : number_of (get_or ws 2 []) ≡ Some k) (claim_word : number_of (get_or ws 3 []) ≡ Some claim) (field_word : field_named (get_or ws 4 []) ≡ Some field) where
+  pub values-weighed : given (weight_named (get_or ws 5 []) field) (UnknownWeight i (word_column ws 5)) (λ weight. let h : Header = record { n = n; k = k; claim = claim; field = field; weight = weight } in cond (within_limits h) (Ok h) (Err (OutsideLimits i))) ≡ values_of ws i
+  values-weighed = rw (n_word, k_word, claim_word, field_word) refl

@@ -1,5 +1,5 @@
 -- The codes of an entry, row after row in one list.
-use Rattle.std.proofs.Common.{◌≡◌, ℕ, ◌+◌, ◌-◌, ◌*◌, ◌<◌, ◌≤◌, List, [], ◌∷◌, ◌++◌, map, length, get_or, take, drop, sym, refl, ap, ◌∙◌, add-mul, mul-le-mul_left, one-mul, arith}
+use Rattle.std.proofs.Common.{◌≡◌, ℕ, ◌+◌, ◌*◌, ◌<◌, ◌≤◌, List, [], ◌∷◌, ◌++◌, map, length, get_or, take, drop, sym, refl, ap, ◌∙◌, add-mul, mul-le-mul_left, one-mul, arith}
 use borrow.Rule.Slice.PartMut.{put_mid, post_of}
 use Rattle.std.specs.List.{flat_map}
 use Rattle.std.proofs.lemmas.List.{flat_map_more, take_more}
@@ -24,11 +24,8 @@ pub size-within : (k n : ℕ) → k ≤ 32 → n ≤ 64 → k * n ≤ 2048
 size-within k n few short = omega (arith, mul-le-mul_left k short)
 
 -- codes copied to the front of a place
-pub copied_front : (part place codes all : List ℕ) (size : ℕ) → part ≡ take (size - 0) codes → take size codes ≡ all → part ++ post_of 0 (size - 0) place ≡ all ++ drop size place
-copied_front part place codes all size is whole =
-    let same : size - 0 ≡ size = omega arith in
-    ap (λ (front : List ℕ). front ++ post_of 0 (size - 0) place) (is ∙ ap (λ (m : ℕ). take m codes) same ∙ whole)
-    ∙ ap (λ (m : ℕ). all ++ drop m place) same
+pub copied_front : (part place codes all : List ℕ) (size : ℕ) → part ≡ take size codes → take size codes ≡ all → part ++ post_of 0 size place ≡ all ++ drop size place
+copied_front part place codes all size is whole = ap (λ (front : List ℕ). front ++ post_of 0 size place) (is ∙ whole)
 
 -- rows of codes joined, and the rows' lines joined by their codes
 pub joined-codes : (ls : List (List ℕ)) → flat_map row_codes ls ≡ flat_map (λ row. row) (map row_codes ls)

@@ -1,5 +1,6 @@
 -- Which part comes next, case by case.
 use Rattle.std.proofs.Common.{◌≡◌, ℕ, ◌<◌, true, false, List, [], ◌∷◌, length, Some, None, Ok, Err, Option, Result, sym, refl, ap, ◌∙◌, not-suc-le-zero, arith}
+use Rattle.std.specs.Option.{ok_or}
 use Rattle.entries.specs.declared.header.Header.{Header}
 use Rattle.entries.specs.declared.part.Due.{Due}
 use Rattle.entries.specs.declared.refusal.TextRefusal.{TextRefusal}
@@ -8,6 +9,11 @@ use Rattle.entries.specs.Lines.{words}
 use Rattle.entries.specs.Headers.{header_shaped, values_of, header_reading}
 use Rattle.entries.specs.Rows.{row_fault}
 use Rattle.entries.specs.Parts.{gap_part, header_answer, row_answer, next_part}
+
+-- the fault where a value is missing
+pub fault-of : {A : Type 0} (o : Option A) (e f : TextRefusal) → o ≡ None → Err f ≡ ok_or o e → f ≡ e
+fault-of None e f none at = cc
+fault-of (Some x) e f none at = absurd (let z : ◌≡◌ {A = ℕ} 0 1 = cc in omega arith)
 
 pub header-none : (ls : List (List ℕ)) (i : ℕ) → ls ≡ [] → Ok None ≡ next_part Due.Header ls i
 unfolding next_part

@@ -1,20 +1,16 @@
--- The numbers of a header: what a loop over the digits finds, and that a number and its word determine each other.
-use Rattle.std.proofs.Common.{◌≡◌, ℕ, zero, suc, ◌+◌, ◌^◌, ◌<◌, ◌≤◌, Bool, true, false, cond, not, ◌&&◌, eqb, ltb, leb, List, length, get_or, drop, Some, None, decimal, sym, refl, ap, ◌∙◌, suc-le-suc, zero-le, arith, rules}
-use Rattle.std.proofs.lemmas.List.{at_drop_more}
-use Rattle.std.proofs.lemmas.Bool.{and_parts, and_from, and_right, lt-ltb, le-leb, ltb-true, leb-true, ne_eqb, eqb-false, not-true, not_from_false, cond-true, cond-false}
-use Rattle.std.proofs.lemmas.Str.Parse.{IsNumeralModel, numerals_by_fold, digits_value_short}
+-- The numbers of a header: how a word is read, and that a number and its word determine each other.
+use Rattle.std.proofs.Common.{◌≡◌, ℕ, zero, suc, ◌^◌, ◌<◌, ◌≤◌, Bool, true, false, cond, not, ◌&&◌, eqb, ltb, leb, List, [], ◌∷◌, length, get_or, Some, None, Result, decimal, sym, refl, ap, ◌∙◌, suc-le-suc, zero-le, arith, rules}
+use Rattle.std.proofs.lemmas.Bool.{and_parts, and_from, lt-ltb, le-leb, ltb-true, leb-true, ne_eqb, eqb-false, not-true, not_from_false, cond-true}
+use Rattle.std.proofs.lemmas.Str.Parse.{IsNumeralModel, numerals_by_fold, digits_value_short, parse_gives}
+use Rattle.std.proofs.lemmas.Str.{IsUtf8-from_ascii}
+use Rattle.std.proofs.lemmas.Str.Ascii.{IsAscii-nil, IsAscii-cons}
 use Rattle.std.proofs.lemmas.Fmt.{decimal_digit, decimal-digits_value, digits_value-decimal, digits_decimal, decimal_nonempty, first_decimal, length-decimal-le}
-use Rattle.std.specs.Str.{all_ascii_digits}
+use Rattle.std.specs.List.{list_all}
+use Rattle.std.specs.Result.{result_ok}
+use Rattle.std.specs.Str.{all_ascii_digits, IsAscii, IsUtf8}
+use Rattle.std.specs.Str.Parse.{ParsesUnsigned}
 use Rattle.std.specs.Char.{is_ascii_digit}
 use Rattle.entries.specs.Numbers.{digits_value, is_number, number_of}
-
--- a word with a byte that is no digit is no number
-pub number-none : (w : List ℕ) (i : ℕ) → i < length w → all_ascii_digits (drop i w) ≡ all_ascii_digits w → is_ascii_digit (get_or w i 0) ≡ false → None ≡ number_of w
-number-none w i h same bad-byte =
-    let step : all_ascii_digits (drop i w) ≡ (is_ascii_digit (get_or w i 0) && all_ascii_digits (drop (i + 1) w)) = at_drop_more all_ascii_digits w i 0 h in
-    let bad : all_ascii_digits w ≡ false = sym same ∙ step ∙ ap (λ b. b && all_ascii_digits (drop (i + 1) w)) bad-byte in
-    let failed : is_number w ≡ false = and_right (ltb 0 (length w)) _ (and_right (leb (length w) 3) _ (and_right (not (eqb (get_or w 0 0) 48)) _ bad)) in
-    sym (cond-false (is_number w) _ _ failed)
 
 -- a word of one to three digits, the first not 0, is a number
 pub number-some : (w : List ℕ) → 0 < length w → length w ≤ 3 → (get_or w 0 0 ≡ 48 → ⊥) → all_ascii_digits w ≡ true → Some (digits_value 0 w) ≡ number_of w
@@ -27,6 +23,37 @@ number-some w some few first digits =
 -- the digits of a header's numbers are numerals, as the library has them
 own : IsNumeralModel (λ ds. all_ascii_digits ds ≡ true) (digits_value 0)
 own = numerals_by_fold _ (search rules) digits_value (search rules)
+
+-- all the bytes of a word are digits
+pub digits_listed : (w : List ℕ) → list_all is_ascii_digit w ≡ all_ascii_digits w
+digits_listed [] = refl
+digits_listed (b ∷ w) = ap (λ t. is_ascii_digit b && t) (digits_listed w)
+
+-- what a number's word is
+pub number_parts : (w : List ℕ) → is_number w ≡ true → (0 < length w) × (length w ≤ 3) × (get_or w 0 0 ≡ 48 → ⊥) × (all_ascii_digits w ≡ true)
+number_parts w t =
+    let a = and_parts (ltb 0 (length w)) _ t in
+    let b = and_parts (leb (length w) 3) _ a.1 in
+    let c = and_parts (not (eqb (get_or w 0 0) 48)) _ b.1 in
+    (ltb-true _ _ a.0, leb-true _ _ b.0, eqb-false (get_or w 0 0) 48 (not-true _ c.0), c.1)
+
+digits_ascii : (w : List ℕ) → all_ascii_digits w ≡ true → IsAscii w
+digits_ascii [] t = IsAscii-nil
+digits_ascii (b ∷ w) t =
+    let parts = and_parts (is_ascii_digit b) (all_ascii_digits w) t in
+    let high = leb-true b 57 (and_parts (leb 48 b) (leb b 57) parts.0).1 in
+    IsAscii-cons b w (omega arith) (digits_ascii w parts.1)
+
+-- a number's word is a text
+pub number_text : (w : List ℕ) → is_number w ≡ true → IsUtf8 w
+number_text w t = IsUtf8-from_ascii w (digits_ascii w (number_parts w t).3)
+
+-- a number's word is read as its value
+pub number_parsed : {E : Type 0} (w : List ℕ) (r : Result ℕ E) → is_number w ≡ true → ParsesUnsigned 64 10 w r → result_ok r ≡ number_of w
+number_parsed w r t h =
+    let parts = number_parts w t in
+    let small = digits_value_short own w 3 parts.3 parts.1 in
+    ap result_ok (parse_gives own 64 w r h parts.3 parts.0 (omega arith)) ∙ sym (cond-true (is_number w) _ _ t)
 
 some_test : (b : Bool) (x v : ℕ) → cond b (Some x) None ≡ Some v → b ≡ true
 some_test true x v e = refl
@@ -45,13 +72,10 @@ pub number_word : (w : List ℕ) (v : ℕ) → number_of w ≡ Some v → (w ≡
 number_word w v e =
     let t : is_number w ≡ true = some_test (is_number w) (digits_value 0 w) v e in
     let value : digits_value 0 w ≡ v = some_value (is_number w) (digits_value 0 w) v e in
-    let a = and_parts (ltb 0 (length w)) _ t in
-    let b = and_parts (leb (length w) 3) _ a.1 in
-    let c = and_parts (not (eqb (get_or w 0 0) 48)) _ b.1 in
-    let first : get_or w 0 0 ≡ 48 → ⊥ = eqb-false (get_or w 0 0) 48 (not-true _ c.0) in
-    let small : digits_value 0 w < 10 ^ 3 = digits_value_short own w 3 c.1 (leb-true _ _ b.0) in
-    let is : decimal v ≡ w = ap decimal (sym value) ∙ decimal-digits_value own w c.1 (ltb-true _ _ a.0) (λ z. absurd (first z)) (omega arith) in
-    (sym is, positive v w is first)
+    let parts = number_parts w t in
+    let small : digits_value 0 w < 10 ^ 3 = digits_value_short own w 3 parts.3 parts.1 in
+    let is : decimal v ≡ w = ap decimal (sym value) ∙ decimal-digits_value own w parts.3 parts.0 (λ z. absurd (parts.2 z)) (omega arith) in
+    (sym is, positive v w is parts.2)
 
 -- a number below 1000 is read from its decimal
 pub word_number : (v : ℕ) → 1 ≤ v → v < 1000 → number_of (decimal v) ≡ Some v

@@ -1,6 +1,6 @@
 -- The lines of a text and the words of a line, cut off one by one.
-use Rattle.std.proofs.Common.{◌≡◌, ℕ, suc, ◌+◌, ◌-◌, ◌<◌, ◌≤◌, List, [], ◌∷◌, ◌++◌, length, get_or, take, drop, sym, refl, ap, ◌∙◌, ⊎_elim, suc-le-suc, zero-le, not-suc-le-zero, arith}
-use Rattle.std.proofs.lemmas.List.{take-append-drop, drop_more, length-take, length-drop, get_or-take, get_or-drop, drop-drop, drop_all, take_all}
+use Rattle.std.proofs.Common.{◌≡◌, ℕ, suc, ◌+◌, ◌-◌, ◌<◌, ◌≤◌, min, List, [], ◌∷◌, ◌++◌, length, get_or, take, drop, sym, refl, ap, ◌∙◌, ⊎_elim, suc-le-suc, zero-le, not-suc-le-zero, arith}
+use Rattle.std.proofs.lemmas.List.{take-append-drop, drop_more, length-take, length-drop, get_or-take, drop-drop, drop_all, take_all}
 use Rattle.std.proofs.lemmas.Bool.{eq-eqb, ne_eqb, le-leb, lt-leb, cases_lt}
 use Rattle.entries.specs.Lines.{onto, cut, lines, words}
 use Rattle.entries.specs.WordParts.{words_from}
@@ -55,40 +55,44 @@ pub words_last : (s : List ℕ) → Free 32 s → words s ≡ s ∷ []
 words_last [] free = cut-none 32 ([] ∷ [])
 words_last (b ∷ s) free = cut-last 32 ([] ∷ []) b s (λ a. refl) free
 
--- the bytes of a text from one place to another are free of c
-free_part : {c : ℕ} (s : List ℕ) (from end : ℕ) → ((i : ℕ) → from ≤ i → i < end → get_or s i 0 ≡ c → ⊥) → (i : ℕ) → i < end - from → get_or (drop from s) i 0 ≡ c → ⊥
-free_part s from end clear i h eq = clear (from + i) (omega arith) (omega arith) (sym (get_or-drop from s i 0) ∙ eq)
-
--- a text cut from one place on, where the next byte c stands at another
-pub cut-from : (c : ℕ) (none : List (List ℕ)) (s : List ℕ) (from end : ℕ) → from ≤ end → end < length s → ((i : ℕ) → from ≤ i → i < end → get_or s i 0 ≡ c → ⊥) → get_or s end 0 ≡ c → cut c none (drop from s) ≡ take (end - from) (drop from s) ∷ cut c none (drop (end + 1) s)
-cut-from c none s from end low lt clear found =
-    let e : from + (end - from) ≡ end = omega arith in
-    let long : length (drop from s) ≡ length s - from = length-drop from s in
-    cut_at c none (drop from s) (end - from) (free_part s from end clear) (omega arith) (get_or-drop from s (end - from) 0 ∙ ap (λ (j : ℕ). get_or s j 0) e ∙ found)
-    ∙ ap (λ (t : List ℕ). take (end - from) (drop from s) ∷ cut c none t) (drop-drop (end - from + 1) from s ∙ ap (λ (j : ℕ). drop j s) (omega arith))
-
--- what is left where no byte c follows is one piece
-rest_one : (s : List ℕ) (from end : ℕ) → end ≡ length s → from ≤ end → drop from s ∷ [] ≡ take (end - from) (drop from s) ∷ []
-rest_one s from end e low = ap (λ (t : List ℕ). t ∷ []) (sym (take_all (end - from) (drop from s) (omega (arith, length-drop from s))))
-
--- the word of a line from one place to another, and those after it
-pub word_then : (line : List ℕ) (from end : ℕ) → from ≤ end → end ≤ length line → ((i : ℕ) → from ≤ i → i < end → get_or line i 0 ≡ 32 → ⊥) → (end < length line → get_or line end 0 ≡ 32) → words (drop from line) ≡ take (end - from) (drop from line) ∷ words_from line (from + 1 + (end - from))
-word_then line from end low high clear found =
-    let past : from + 1 + (end - from) ≡ end + 1 = omega arith in
-    rw past
-    (⊎_elim
-    (λ lt. rw (le-leb (end + 1) (length line) (omega arith)) (cut-from 32 ([] ∷ []) line from end low lt clear (found lt)))
-    (λ ge. rw (lt-leb (end + 1) (length line) (omega arith))
-    (words_last (drop from line) (λ i h eq. free_part line from end clear i (omega (arith, length-drop from line)) eq) ∙ rest_one line from end (omega arith) low))
-    (cases_lt end (length line)))
-
--- the last line of a text, with no break after it
-pub line-last : (s : List ℕ) (from end : ℕ) → from < end → end ≡ length s → ((i : ℕ) → from ≤ i → i < end → get_or s i 0 ≡ 10 → ⊥) → lines (drop from s) ≡ take (end - from) (drop from s) ∷ lines (drop end s)
-line-last s from end lt e clear =
-    lines-last (drop from s) (omega (arith, length-drop from s)) (λ i h eq. free_part s from end clear i (omega (arith, length-drop from s)) eq)
-    ∙ rest_one s from end e (omega arith)
-    ∙ ap (λ (ls : List (List ℕ)). take (end - from) (drop from s) ∷ ls) (sym (ap lines (drop_all end s (omega arith)) ∙ cut-none 10 []))
-
 -- past the end there is no line
 pub lines_none : (s : List ℕ) (from : ℕ) → length s ≤ from → lines (drop from s) ≡ []
 lines_none s from h = ap lines (drop_all from s h) ∙ cut-none 10 []
+
+-- a text from a place on, as the slice from there
+pub the-rest : (s : List ℕ) (from : ℕ) → take (length s - from) (drop from s) ≡ drop from s
+the-rest s from = take_all (length s - from) (drop from s) (omega (arith, length-drop from s))
+
+-- the bytes up to the next c, where they begin at a place of a text
+module _ (c : ℕ) (s : List ℕ) (from : ℕ) (b : List ℕ) (part : b ≡ take (length b) (drop from s)) (before : (i : ℕ) → i < length b → get_or (drop from s) i 0 ≡ c → ⊥) where
+  rest_one : length (drop from s) ≤ length b → b ≡ drop from s
+  rest_one all = part ∙ take_all (length b) (drop from s) all
+
+  rest_free : length (drop from s) ≤ length b → Free c (drop from s)
+  rest_free all i h eq = before i (omega arith) eq
+
+  piece_then : (none : List (List ℕ)) (next : ℕ) → length b < length (drop from s) → get_or (drop from s) (length b) 0 ≡ c → next ≡ from + length b + 1 → cut c none (drop from s) ≡ b ∷ cut c none (drop next s)
+  piece_then none next more found is =
+      cut_at c none (drop from s) (length b) before more found
+      ∙ ap (λ (p : List ℕ). p ∷ cut c none (drop (length b + 1) (drop from s))) (sym part)
+      ∙ ap (λ (t : List ℕ). b ∷ cut c none t) (drop-drop (length b + 1) from s ∙ ap (λ (j : ℕ). drop j s) (omega arith))
+
+-- the word of a line that begins at a place, and those after it
+pub words_next : (line : List ℕ) (from : ℕ) (b : List ℕ) → from ≤ length line → b ≡ take (length b) (drop from line) → ((i : ℕ) → i < length b → get_or (drop from line) i 0 ≡ 32 → ⊥) → (length b < length (drop from line) → get_or (drop from line) (length b) 0 ≡ 32) → words (drop from line) ≡ b ∷ words_from line (from + 1 + length b)
+words_next line from b within part before found =
+    ⊎_elim
+    (λ more. rw (le-leb (from + 1 + length b) (length line) (omega (arith, length-drop from line)))
+    (piece_then 32 line from b part before ([] ∷ []) (from + 1 + length b) more (found more) (omega arith)))
+    (λ all. rw (lt-leb (from + 1 + length b) (length line) (omega (arith, length-drop from line)))
+    (words_last (drop from line) (rest_free 32 line from b part before all) ∙ ap (λ (t : List ℕ). t ∷ []) (sym (rest_one 32 line from b part before all))))
+    (cases_lt (length b) (length (drop from line)))
+
+-- the line of a text that begins at a place, and those after it
+pub lines_next : (s : List ℕ) (from : ℕ) (b : List ℕ) → from < length s → b ≡ take (length b) (drop from s) → ((i : ℕ) → i < length b → get_or (drop from s) i 0 ≡ 10 → ⊥) → (length b < length (drop from s) → get_or (drop from s) (length b) 0 ≡ 10) → lines (drop from s) ≡ b ∷ lines (drop (min (from + length b + 1) (length s)) s)
+lines_next s from b within part before found =
+    ⊎_elim
+    (λ more. piece_then 10 s from b part before [] (min (from + length b + 1) (length s)) more (found more) (omega (arith, length-drop from s)))
+    (λ all. lines-last (drop from s) (omega (arith, length-drop from s)) (rest_free 10 s from b part before all)
+    ∙ ap (λ (t : List ℕ). t ∷ []) (sym (rest_one 10 s from b part before all))
+    ∙ ap (λ (ls : List (List ℕ)). b ∷ ls) (sym (lines_none s (min (from + length b + 1) (length s)) (omega (arith, length-drop from s)))))
+    (cases_lt (length b) (length (drop from s)))

@@ -10,7 +10,7 @@ use Rattle.entries.specs.declared.refusal.TextRefusal.TheVariants.{TooLong}
 use Rattle.entries.specs.Lines.{lines}
 use Rattle.entries.specs.Entries.{next_entry}
 use Rattle.entries.specs.Written.{WrittenEntry, Lawful, entry_lines, entries_lines, entry_in, Ends}
-use Rattle.entries.specs.EntryReaders.{text_in, lines_left, lines_read, entry_answer, EntryAfter, entries_of, ReadAs}
+use Rattle.entries.specs.EntryReaders.{text_in, lines_left, lines_read, entry_answer, EntryAfter, entries_of, ReadAs, HandsOut}
 use Rattle.entries.proofs.EntryLines.{EntryStands, entry_stands, written-reads}
 
 -- a front of a list, and so much of the rest
@@ -97,3 +97,11 @@ answer_back r a e rest value lawful end few stands =
     let is : a ≡ Ok (Some e.header) =
     value ∙ cond-true (leb (length (text_in r)) 60000) _ _ (le-leb _ _ few) ∙ ap (λ (ls : List (List ℕ)). next_entry ls (lines_read r + 1)) stands ∙ reads.0 in
     ap (λ (b : Result (Option Header) TextRefusal). entries_of b (lines_left r)) is ∙ ap (λ (ls : List (List ℕ)). entry_in e.header ls ∷ []) stands ∙ ap (λ (x : WrittenEntry). x ∷ []) reads.1
+
+-- what an answer means for the entries read
+pub hands_out : (r s : EntryReader) (a : Result (Option Header) TextRefusal) → text_in s ≡ text_in r → a ≡ entry_answer r → EntryAfter r a s → HandsOut r a s
+hands_out r s a text value after = record {
+  lawful = answer-lawful r a value;
+  joined = λ es so_far. answer-joined r s a es r.parts.place text value after so_far;
+  back = λ e rest lawful end few stands. answer_back r a e rest value lawful end few stands;
+}

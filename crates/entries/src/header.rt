@@ -1,16 +1,17 @@
 // The header of an entry: its words in the text, and what they say.
 ghost use Rattle.std.specs.Prelude.{◌≡◌, ℕ, ◌+◌, ◌≤◌, true, false, not, [], ◌∷◌, length, MatchOption};
 ghost use Rattle.std.specs.Option.{ok_or};
-ghost use Rattle.entries.specs.declared.refusal.TextRefusal.TheVariants.{BadNumber};
+ghost use Rattle.entries.specs.declared.refusal.TextRefusal.TheVariants.{BadNumber, UnknownField, UnknownWeight};
 ghost use Rattle.entries.specs.Lines.{words};
+ghost use Rattle.entries.specs.Names.{field_named, weight_named};
 ghost use Rattle.entries.specs.Numbers.{number_of};
 ghost use Rattle.entries.specs.Headers.{header_shaped, none_empty, values_of, within_limits};
 ghost use Rattle.entries.specs.HeaderWords.{word_list, Columned};
 
-use crate::names::{FieldName, WeightName, field_named, weight_named};
+use crate::names::{FieldName, WeightName};
 use crate::numbers::number;
 use crate::refusal::TextRefusal;
-use crate::words::{Word, spells, word_after, word_at};
+use crate::words::{Word, word_after, word_at};
 
 // The most rows of a generator matrix, and the most symbols of a row.
 pub const MOST_ROWS: usize = 32;
@@ -28,7 +29,7 @@ pub struct Header {
 }
 
 // The six words of a header, as they stand in the text.
-#[derive(Clone, Copy)]
+#[derive(Clone, Copy, PartialEq, Eq, Debug)]
 pub struct HeaderWords<'t> {
     pub code: Word<'t>,
     pub n: Word<'t>,
@@ -36,6 +37,23 @@ pub struct HeaderWords<'t> {
     pub claim: Word<'t>,
     pub field: Word<'t>,
     pub weight: Word<'t>,
+}
+
+impl HeaderWords<'_> {
+    // Whether one of the words is empty.
+    fn has_empty(&self) -> bool
+        ensures value { not result ≡ none_empty (word_list self.now) }
+    {
+        let words = [
+            self.code,
+            self.n,
+            self.k,
+            self.claim,
+            self.field,
+            self.weight,
+        ];
+        words.iter().any(|word| word.bytes.is_empty())
+    }
 }
 
 // The words of a header line, or none where the line is not of that shape.
@@ -48,9 +66,9 @@ pub(crate) fn header_words(line: &[u8]) -> Option<HeaderWords<'_>>
     let claim = word_after(line, k)?;
     let field = word_after(line, claim)?;
     let weight = word_after(line, field)?;
-    let None = word_after(line, weight) else {
+    if word_after(line, weight).is_some() {
         return None;
-    };
+    }
     let words = HeaderWords {
         code,
         n,
@@ -59,22 +77,10 @@ pub(crate) fn header_words(line: &[u8]) -> Option<HeaderWords<'_>>
         field,
         weight,
     };
-    if has_empty(words) || !spells(code.bytes, b"code") {
+    if words.has_empty() || code.bytes != b"code".as_slice() {
         return None;
     }
     Some(words)
-}
-
-// Whether one of the words is empty.
-fn has_empty(words: HeaderWords<'_>) -> bool
-    ensures value { not result ≡ none_empty (word_list words.entry) }
-{
-    words.code.bytes.is_empty()
-        || words.n.bytes.is_empty()
-        || words.k.bytes.is_empty()
-        || words.claim.bytes.is_empty()
-        || words.field.bytes.is_empty()
-        || words.weight.bytes.is_empty()
 }
 
 // What the words of the header in a line say, or their first fault.
@@ -85,18 +91,8 @@ pub(crate) fn header_values(words: &HeaderWords<'_>, line: usize) -> Result<Head
     let n = number_in(words.n, line)?;
     let k = number_in(words.k, line)?;
     let claim = number_in(words.claim, line)?;
-    let Some(field) = field_named(words.field.bytes) else {
-        return Err(TextRefusal::UnknownField {
-            line,
-            column: words.field.column,
-        });
-    };
-    let Some(weight) = weight_named(words.weight.bytes, field) else {
-        return Err(TextRefusal::UnknownWeight {
-            line,
-            column: words.weight.column,
-        });
-    };
+    let field = field_in(words.field, line)?;
+    let weight = weight_in(words.weight, field, line)?;
     let header = Header {
         n,
         k,
@@ -115,17 +111,35 @@ pub(crate) fn header_values(words: &HeaderWords<'_>, line: usize) -> Result<Head
 fn number_in(word: Word<'_>, line: usize) -> Result<usize, TextRefusal>
     ensures value { result ≡ ok_or (number_of word.entry.bytes.now) (BadNumber line word.entry.column) }
 {
-    match number(word.bytes) {
-        Some(value) => Ok(value),
-        None => Err(TextRefusal::BadNumber {
-            line,
-            column: word.column,
-        }),
-    }
+    number(word.bytes).ok_or(TextRefusal::BadNumber {
+        line,
+        column: word.column,
+    })
+}
+
+// The field that a word of a line names.
+fn field_in(word: Word<'_>, line: usize) -> Result<FieldName, TextRefusal>
+    ensures value { result ≡ ok_or (field_named word.entry.bytes.now) (UnknownField line word.entry.column) }
+{
+    FieldName::try_from(word.bytes).map_err(|_| TextRefusal::UnknownField {
+        line,
+        column: word.column,
+    })
+}
+
+// The symbol weight that a word of a line names beside a field.
+fn weight_in(word: Word<'_>, field: FieldName, line: usize) -> Result<WeightName, TextRefusal>
+    ensures value { result ≡ ok_or (weight_named word.entry.bytes.now field) (UnknownWeight line word.entry.column) }
+{
+    WeightName::named(word.bytes, field).ok_or(TextRefusal::UnknownWeight {
+        line,
+        column: word.column,
+    })
 }
 
 impl Header {
     // Whether n, k and the claim keep the limits of an entry.
+    #[tactic(auto, unfolding(crate::specs::Headers::within_limits))]
     pub(crate) fn within_limits(self) -> bool
         ensures value { result ≡ within_limits self }
     {

@@ -1,16 +1,8 @@
 // What holds of every entry text, apart from any reader.
-ghost use Rattle.entries.specs.Written.{WrittenEntry, Lawful, WrittenReadsBack, TextsReadBack};
+ghost use Rattle.entries.specs.Written.{WrittenEntry, Lawful, WrittenReadsBack};
 
 // The text that the format writes for a lawful entry reads back as that entry.
-pub fn written_text_reads_back() -> u8
+#[tactic(auto, using(crate::proofs::EntryTexts::written_text))]
+pub fn written_text_reads_back()
     ensures { (e : WrittenEntry) → Lawful e → WrittenReadsBack e }
-{
-    texts_read_back()
-}
-
-// The law as its proof gives it: the public function hands it on.
-fn texts_read_back() -> u8
-    ensures { TextsReadBack }
-{
-    0
-}
+{}

@@ -16,7 +16,7 @@ mod words;
 pub use entry_reader::{EntryReader, MOST_CODES};
 pub use header::{Header, HeaderWords, MOST_ROWS, MOST_SYMBOLS};
 pub use laws::written_text_reads_back;
-pub use names::{FieldName, WeightName};
+pub use names::{FieldName, UnknownName, WeightName};
 pub use part::Part;
 pub use reader::{MOST_BYTES, PartReader};
 pub use refusal::TextRefusal;

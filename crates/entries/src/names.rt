@@ -1,8 +1,11 @@
 // The words by which a header names its field and its symbol weight.
-ghost use Rattle.std.specs.Prelude.{◌≡◌};
-ghost use Rattle.entries.specs.Names.{order, top, field_word, weight_word, field_named, weight_named};
+ghost use Rattle.std.specs.Prelude.{◌≡◌, [], ◌∷◌, Some};
+ghost use Rattle.std.specs.Option.{ok_or};
+ghost use Rattle.entries.specs.declared.names.WeightName.TheVariants.{Hamming, Lee};
+ghost use Rattle.entries.specs.Names.{order, top, field_word, weight_word, named, field_named, goes_with, weight_named};
 
-use crate::words::spells;
+use std::error::Error;
+use std::fmt;
 
 // A field that an entry may name: the prime fields up to 13, and GF(4).
 #[derive(Clone, Copy, PartialEq, Eq, Debug)]
@@ -23,6 +26,10 @@ pub enum WeightName {
     Lee,
 }
 
+// A word that names no field, or no symbol weight.
+#[derive(Clone, Copy, PartialEq, Eq, Debug)]
+pub struct UnknownName;
+
 // The fields that an entry may name.
 const FIELDS: [FieldName; 7] = [
     FieldName::Gf2,
@@ -33,6 +40,9 @@ const FIELDS: [FieldName; 7] = [
     FieldName::Gf11,
     FieldName::Gf13,
 ];
+
+// The symbol weights that an entry may name.
+const WEIGHTS: [WeightName; 2] = [WeightName::Hamming, WeightName::Lee];
 
 impl FieldName {
     // How many elements the field has.
@@ -86,35 +96,72 @@ impl WeightName {
             WeightName::Lee => "lee",
         }
     }
+
+    // Whether the weight goes with a field: GF(4) has no lee weight.
+    fn goes_with(self, field: FieldName) -> bool
+        ensures value { result ≡ goes_with field self }
+    {
+        self == WeightName::Hamming || field != FieldName::Gf4
+    }
+
+    // The symbol weight that a word names beside a field.
+    pub(crate) fn named(word: &[u8], field: FieldName) -> Option<WeightName>
+        ensures value { result ≡ weight_named word.now field }
+    {
+        WeightName::try_from(word)
+            .ok()
+            .filter(|weight| weight.goes_with(field))
+    }
 }
 
-// The field that a word names.
-pub(crate) fn field_named(word: &[u8]) -> Option<FieldName>
-    ensures value { result ≡ field_named word.now }
-{
-    for field in FIELDS {
-        if spells(word, field.word().as_bytes()) {
-            return Some(field);
-        }
+impl TryFrom<&[u8]> for FieldName {
+    type Error = UnknownName;
+
+    ghost try_from_gives = { λ word r. r ≡ ok_or (field_named word.now) (record {}) };
+
+    fn try_from(word: &[u8]) -> Result<FieldName, UnknownName> {
+        FIELDS
+            .iter()
+            .find(|field| word == field.word().as_bytes())
+            .copied()
+            .ok_or(UnknownName)
     }
-    None
 }
 
-// The symbol weight that a word names beside a field: GF(4) has no lee weight.
-pub(crate) fn weight_named(word: &[u8], field: FieldName) -> Option<WeightName>
-    ensures value { result ≡ weight_named word.now field }
-{
-    if spells(word, WeightName::Hamming.word().as_bytes()) {
-        return Some(WeightName::Hamming);
-    }
-    match field {
-        FieldName::Gf4 => None,
-        _ => {
-            if spells(word, WeightName::Lee.word().as_bytes()) {
-                Some(WeightName::Lee)
-            } else {
-                None
-            }
-        }
+impl TryFrom<&[u8]> for WeightName {
+    type Error = UnknownName;
+
+    ghost try_from_gives = { λ word r. r ≡ ok_or (named weight_word word.now (Hamming ∷ Lee ∷ [])) (record {}) };
+
+    fn try_from(word: &[u8]) -> Result<WeightName, UnknownName> {
+        WEIGHTS
+            .iter()
+            .find(|weight| word == weight.word().as_bytes())
+            .copied()
+            .ok_or(UnknownName)
     }
 }
+
+impl fmt::Display for FieldName {
+    ghost output = { λ field. Some (field_word field) };
+
+    fn fmt<W: fmt::Write>(&self, f: &mut fmt::Formatter<W>) -> fmt::Result {
+        f.write_str(self.word())
+    }
+}
+
+impl fmt::Display for WeightName {
+    ghost output = { λ weight. Some (weight_word weight) };
+
+    fn fmt<W: fmt::Write>(&self, f: &mut fmt::Formatter<W>) -> fmt::Result {
+        f.write_str(self.word())
+    }
+}
+
+impl fmt::Display for UnknownName {
+    fn fmt<W: fmt::Write>(&self, f: &mut fmt::Formatter<W>) -> fmt::Result {
+        f.write_str("a word that names no field and no symbol weight")
+    }
+}
+
+impl Error for UnknownName {}

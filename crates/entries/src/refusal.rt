@@ -2,6 +2,9 @@
 ghost use Rattle.std.specs.Prelude.{◌≡◌};
 ghost use Rattle.entries.specs.Refusals.{number, line, column};
 
+use std::error::Error;
+use std::fmt;
+
 #[derive(Clone, Copy, PartialEq, Eq, Debug)]
 pub enum TextRefusal {
     TooLong,
@@ -23,15 +26,15 @@ impl TextRefusal {
     {
         match self {
             TextRefusal::TooLong => 60,
-            TextRefusal::HeaderShape { line: _ } => 61,
-            TextRefusal::BadNumber { line: _, column: _ } => 62,
-            TextRefusal::UnknownField { line: _, column: _ } => 63,
-            TextRefusal::UnknownWeight { line: _, column: _ } => 64,
-            TextRefusal::OutsideLimits { line: _ } => 65,
-            TextRefusal::MissingRow { line: _ } => 66,
-            TextRefusal::RowLength { line: _ } => 66,
-            TextRefusal::NoEntryEnd { line: _ } => 66,
-            TextRefusal::BadSymbol { line: _, column: _ } => 67,
+            TextRefusal::HeaderShape { .. } => 61,
+            TextRefusal::BadNumber { .. } => 62,
+            TextRefusal::UnknownField { .. } => 63,
+            TextRefusal::UnknownWeight { .. } => 64,
+            TextRefusal::OutsideLimits { .. } => 65,
+            TextRefusal::MissingRow { .. }
+            | TextRefusal::RowLength { .. }
+            | TextRefusal::NoEntryEnd { .. } => 66,
+            TextRefusal::BadSymbol { .. } => 67,
         }
     }
 
@@ -41,15 +44,15 @@ impl TextRefusal {
     {
         match self {
             TextRefusal::TooLong => 0,
-            TextRefusal::HeaderShape { line } => line,
-            TextRefusal::BadNumber { line, column: _ } => line,
-            TextRefusal::UnknownField { line, column: _ } => line,
-            TextRefusal::UnknownWeight { line, column: _ } => line,
-            TextRefusal::OutsideLimits { line } => line,
-            TextRefusal::MissingRow { line } => line,
-            TextRefusal::RowLength { line } => line,
-            TextRefusal::NoEntryEnd { line } => line,
-            TextRefusal::BadSymbol { line, column: _ } => line,
+            TextRefusal::HeaderShape { line }
+            | TextRefusal::BadNumber { line, .. }
+            | TextRefusal::UnknownField { line, .. }
+            | TextRefusal::UnknownWeight { line, .. }
+            | TextRefusal::OutsideLimits { line }
+            | TextRefusal::MissingRow { line }
+            | TextRefusal::RowLength { line }
+            | TextRefusal::NoEntryEnd { line }
+            | TextRefusal::BadSymbol { line, .. } => line,
         }
     }
 
@@ -59,15 +62,26 @@ impl TextRefusal {
     {
         match self {
             TextRefusal::TooLong => 0,
-            TextRefusal::BadNumber { line: _, column } => column,
-            TextRefusal::UnknownField { line: _, column } => column,
-            TextRefusal::UnknownWeight { line: _, column } => column,
-            TextRefusal::BadSymbol { line: _, column } => column,
-            TextRefusal::HeaderShape { line: _ }
-            | TextRefusal::OutsideLimits { line: _ }
-            | TextRefusal::MissingRow { line: _ }
-            | TextRefusal::RowLength { line: _ }
-            | TextRefusal::NoEntryEnd { line: _ } => 1,
+            TextRefusal::BadNumber { column, .. }
+            | TextRefusal::UnknownField { column, .. }
+            | TextRefusal::UnknownWeight { column, .. }
+            | TextRefusal::BadSymbol { column, .. } => column,
+            TextRefusal::HeaderShape { .. }
+            | TextRefusal::OutsideLimits { .. }
+            | TextRefusal::MissingRow { .. }
+            | TextRefusal::RowLength { .. }
+            | TextRefusal::NoEntryEnd { .. } => 1,
         }
     }
 }
+
+impl fmt::Display for TextRefusal {
+    fn fmt<W: fmt::Write>(&self, f: &mut fmt::Formatter<W>) -> fmt::Result {
+        let number = self.number();
+        let line = self.line();
+        let column = self.column();
+        write!(f, "text refused {number} line {line} column {column}")
+    }
+}
+
+impl Error for TextRefusal {}

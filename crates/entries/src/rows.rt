@@ -1,5 +1,6 @@
 // The rows of an entry: their faults and their codes.
 ghost use Rattle.std.specs.Prelude.{◌≡◌, length};
+ghost use Rattle.std.specs.Result.{result_err};
 ghost use Rattle.entries.specs.Rows.{is_element, symbol_fault, row_fault, row_codes};
 
 use crate::header::Header;
@@ -10,35 +11,34 @@ use crate::symbols::symbol_code;
 fn is_element(symbol: u8, order: u8) -> bool
     ensures value { result ≡ is_element order symbol }
 {
-    match symbol_code(symbol) {
-        Some(code) => code < order,
-        None => false,
-    }
+    symbol_code(symbol).is_some_and(|code| code < order)
 }
 
-// The first symbol of a row that is no element of the field of order `order`.
-fn symbol_fault(symbols: &[u8], order: u8, line: usize) -> Option<TextRefusal>
-    ensures value { result ≡ symbol_fault order line 1 symbols.now }
+// Refuses a row at its first symbol that is no element of the field of order `order`.
+fn check_symbols(symbols: &[u8], order: u8, line: usize) -> Result<(), TextRefusal>
+    ensures value { result_err result ≡ symbol_fault order line 1 symbols.now }
 {
-    for (i, symbol) in symbols.iter().enumerate() {
-        if !is_element(*symbol, order) {
-            return Some(TextRefusal::BadSymbol {
-                line,
-                column: i + 1,
-            });
-        }
+    match symbols
+        .iter()
+        .position(|symbol| !is_element(*symbol, order))
+    {
+        Some(i) => Err(TextRefusal::BadSymbol {
+            line,
+            column: i + 1,
+        }),
+        None => Ok(()),
     }
-    None
 }
 
-// The first fault of a row: its length, then its symbols.
-pub(crate) fn row_fault(symbols: &[u8], header: Header, line: usize) -> Option<TextRefusal>
-    ensures value { result ≡ row_fault header symbols.now line }
+// Refuses a row by its length, then by its symbols.
+#[tactic(auto, unfolding(crate::specs::Rows::row_fault))]
+pub(crate) fn check_row(symbols: &[u8], header: Header, line: usize) -> Result<(), TextRefusal>
+    ensures value { result_err result ≡ row_fault header symbols.now line }
 {
     if symbols.len() != header.n {
-        return Some(TextRefusal::RowLength { line });
+        return Err(TextRefusal::RowLength { line });
     }
-    symbol_fault(symbols, header.field.order(), line)
+    check_symbols(symbols, header.field.order(), line)
 }
 
 // Writes the codes of a row's symbols.
@@ -46,7 +46,8 @@ pub(crate) fn decode_row(symbols: &[u8], codes: &mut [u8])
     requires { length codes.old ≡ length symbols.now }
     ensures after { codes.new ≡ row_codes symbols.now }
 {
-    for (i, symbol) in symbols.iter().enumerate() {
-        codes[i] = symbol_code(*symbol).unwrap_or(0);
+    codes.copy_from_slice(symbols);
+    for code in codes.iter_mut() {
+        *code = symbol_code(*code).unwrap_or(0);
     }
 }

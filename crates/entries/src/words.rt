@@ -1,6 +1,5 @@
 // Words of bytes, and where they stand in a line.
-ghost use Rattle.std.specs.Prelude.{◌≡◌, ℕ, ◌+◌, ◌-◌, ◌<◌, ◌≤◌, [], ◌∷◌, length, take, drop, IfSome, MatchOption, ◌≢◌, slice_index};
-ghost use Rattle.std.specs.Str.{bytes_eq};
+ghost use Rattle.std.specs.Prelude.{◌≡◌, ℕ, ◌+◌, ◌<◌, ◌≤◌, [], ◌∷◌, length, take, drop, IfSome, MatchOption, ◌≢◌, slice_index};
 ghost use Rattle.entries.specs.Lines.{words};
 ghost use Rattle.entries.specs.WordParts.{words_from};
 
@@ -8,31 +7,20 @@ ghost use Rattle.entries.specs.WordParts.{words_from};
 const SPACE: u8 = 32;
 
 // A word of a line, as it stands in the text, with its column from 1.
-#[derive(Clone, Copy)]
+#[derive(Clone, Copy, PartialEq, Eq, Debug)]
 pub struct Word<'t> {
     pub bytes: &'t [u8],
     pub column: usize,
 }
 
-// Whether two words have the same bytes.
-pub(crate) fn spells(word: &[u8], text: &[u8]) -> bool
-    ensures value { result ≡ bytes_eq word.now text.now }
+// The bytes before the first `stop`, or all of them where there is none.
+pub(crate) fn bytes_before(bytes: &[u8], stop: u8) -> &[u8]
+    ensures part { (length result.now ≤ length bytes.now) × (result.now ≡ take (length result.now) bytes.now) }
+    ensures before { (i : ℕ) → i < length result.now → slice_index bytes.now i ≢ stop }
+    ensures found { length result.now < length bytes.now → slice_index bytes.now (length result.now) ≡ stop }
 {
-    word == text
-}
-
-// Where the first `byte` stands at or after `from`, or the length where there is none.
-pub(crate) fn find_byte(bytes: &[u8], from: usize, byte: u8) -> usize
-    requires { from ≤ length bytes.now }
-    ensures within { (from ≤ result) × (result ≤ length bytes.now) }
-    ensures before { (i : ℕ) → from ≤ i → i < result → slice_index bytes.now i ≢ byte }
-    ensures found { result < length bytes.now → slice_index bytes.now result ≡ byte }
-{
-    let mut i = from;
-    while i < bytes.len() && bytes[i] != byte {
-        i += 1;
-    }
-    i
+    let end = bytes.iter().position(|byte| *byte == stop);
+    &bytes[..end.unwrap_or(bytes.len())]
 }
 
 // The word of a line that begins at `from`.
@@ -42,9 +30,8 @@ pub(crate) fn word_at(line: &[u8], from: usize) -> Word<'_>
     ensures part { result.bytes.now ≡ take (length result.bytes.now) (drop from line.now) }
     ensures cut { words (drop from line.now) ≡ result.bytes.now ∷ words_from line.now (result.column + length result.bytes.now) }
 {
-    let end = find_byte(line, from, SPACE);
     Word {
-        bytes: &line[from..end],
+        bytes: bytes_before(&line[from..], SPACE),
         column: from + 1,
     }
 }

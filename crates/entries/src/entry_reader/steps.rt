@@ -1,5 +1,5 @@
 // What the reader of entries does.
-ghost use Rattle.std.specs.Prelude.{◌≡◌, ◌+◌, ◌*◌, ◌<◌, ◌≤◌, min, true, [], ◌++◌, length, take, drop, Some, None, MatchResult, OnOk, slice_index_or};
+ghost use Rattle.std.specs.Prelude.{◌≡◌, ◌+◌, ◌*◌, ◌≤◌, min, true, [], length, take, drop, Some, None, MatchResult, OnOk};
 ghost use Rattle.std.specs.List.{flat_map};
 ghost use Rattle.entries.specs.Lines.{lines};
 ghost use Rattle.entries.specs.Headers.{header_reading};
@@ -13,36 +13,10 @@ ghost use Rattle.entries.specs.Written.{Lined};
 
 use super::{EntryReader, MOST_CODES};
 use crate::header::Header;
-use crate::part::{Due, Part};
+use crate::part::Due;
 use crate::reader::PartReader;
 use crate::refusal::TextRefusal;
 use crate::rows::decode_row;
-
-// Reads a row that is due, with `after` rows after it, and writes its codes.
-fn read_row(
-    parts: &mut PartReader<'_>,
-    header: Header,
-    after: usize,
-    codes: &mut [u8],
-) -> Result<(), TextRefusal>
-    requires { (length (text_of parts.old) ≤ 60000) × (parts.old.due ≡ rows_due header (after + 1)) × (length codes.old ≡ header.n) }
-    ensures value { MatchResult result (λ _. (0 < length (left parts.old)) × (rows_fault header (after + 1) (left parts.old) (parts.old.passed + 1) ≡ rows_fault header after (left parts.new) (parts.new.passed + 1)) × (codes.new ≡ row_codes (slice_index_or (left parts.old) 0 []))) (λ f. rows_fault header (after + 1) (left parts.old) (parts.old.passed + 1) ≡ Some f) }
-    ensures after { OnOk result ((left parts.new ≡ drop 1 (left parts.old)) × (parts.new.passed ≡ parts.old.passed + 1) × (parts.new.due ≡ rows_due header after)) }
-    ensures text { text_of parts.new ≡ text_of parts.old }
-{
-    let Some(part) = parts.next_part()? else {
-        unreachable()
-    };
-    match part {
-        Part::Row {
-            symbols,
-            line: _,
-            column: _,
-        } => decode_row(symbols, codes),
-        _ => unreachable(),
-    }
-    Ok(())
-}
 
 // Reads the rows that are due after a header, and writes their codes in row order.
 fn read_rows(
@@ -50,19 +24,15 @@ fn read_rows(
     header: Header,
     codes: &mut [u8],
 ) -> Result<(), TextRefusal>
-    requires { (length (text_of parts.old) ≤ 60000) × (parts.old.due ≡ rows_due header header.k) × (header.k ≤ 32) × (header.n ≤ 64) × (length codes.old ≡ 2048) }
+    requires { (parts.old.due ≡ rows_due header header.k) × (header.k ≤ 32) × (header.n ≤ 64) × (length codes.old ≡ 2048) }
     ensures value { MatchResult result (λ _. (header.k ≤ length (left parts.old)) × (rows_fault header header.k (left parts.old) (parts.old.passed + 1) ≡ rows_fault header 0 (left parts.new) (parts.new.passed + 1)) × (take (header.k * header.n) codes.new ≡ flat_map row_codes (take header.k (left parts.old)))) (λ f. rows_fault header header.k (left parts.old) (parts.old.passed + 1) ≡ Some f) }
     ensures after { OnOk result ((left parts.new ≡ drop header.k (left parts.old)) × (parts.new.passed ≡ parts.old.passed + header.k) × (parts.new.due ≡ rows_due header 0)) }
     ensures text { text_of parts.new ≡ text_of parts.old }
 {
     for row in 0..header.k {
+        let symbols = parts.next_row(header, header.k - 1 - row)?;
         let from = row * header.n;
-        read_row(
-            parts,
-            header,
-            header.k - 1 - row,
-            &mut codes[from..from + header.n],
-        )?;
+        decode_row(symbols, &mut codes[from..from + header.n]);
     }
     Ok(())
 }
@@ -74,33 +44,23 @@ fn read_header(parts: &mut PartReader<'_>) -> Result<Option<Header>, TextRefusal
     ensures after { HeaderPassed parts.old result parts.new }
     ensures text { text_of parts.new ≡ text_of parts.old }
 {
-    let Some(part) = parts.next_part()? else {
-        return Ok(None);
-    };
-    match part {
-        Part::Header {
-            words: _,
-            values,
-            line: _,
-        } => Ok(Some(values)),
-        _ => unreachable(),
-    }
+    Ok(parts.next_part()?.and_then(|part| part.header()))
 }
 
 // Finds the end of an entry whose rows are read.
 fn read_end(parts: &mut PartReader<'_>) -> Result<(), TextRefusal>
-    requires { (length (text_of parts.old) ≤ 60000) × (parts.old.due ≡ Due.Ending) }
+    requires { parts.old.due ≡ Due.Ending }
     ensures value { MatchResult result (λ _. end_fault (left parts.old) (parts.old.passed + 1) ≡ None) (λ f. end_fault (left parts.old) (parts.old.passed + 1) ≡ Some f) }
     ensures after { OnOk result ((left parts.new ≡ drop 1 (left parts.old)) × (parts.new.passed ≡ parts.old.passed + min 1 (length (left parts.old))) × (header_due parts.new.due ≡ true)) }
     ensures text { text_of parts.new ≡ text_of parts.old }
 {
-    let _ = parts.next_part()?;
+    let _ = parts.ending_part()?;
     Ok(())
 }
 
 impl<'t> EntryReader<'t> {
-    // A reader that has read nothing.
-    fn start(text: &'t [u8]) -> EntryReader<'t>
+    // A reader at the start of a text.
+    pub fn new(text: &'t [u8]) -> EntryReader<'t>
         ensures text { text_in result ≡ text.now }
         ensures lines { lines_left result ≡ lines text.now }
         ensures lined { Lined text.now (lines_left result) }
@@ -110,48 +70,6 @@ impl<'t> EntryReader<'t> {
         EntryReader {
             parts: PartReader::new(text),
         }
-    }
-
-    // A reader at the start of a text.
-    pub fn new(text: &'t [u8]) -> EntryReader<'t>
-        ensures text { text_in result ≡ text.now }
-        ensures lines { lines_left result ≡ lines text.now }
-        ensures lined { Lined text.now (lines_left result) }
-        ensures place { lines_read result ≡ 0 }
-        ensures none { ReadAs result [] }
-    {
-        EntryReader::start(text)
-    }
-
-    // Reads an entry whole, or nothing.
-    fn read_entry(&mut self, codes: &mut [u8; MOST_CODES]) -> Result<Option<Header>, TextRefusal>
-        ensures value { result ≡ entry_answer self.old }
-        ensures after { EntryAfter self.old result self.new }
-        ensures codes { codes.new ≡ codes_after result (lines_left self.old) codes.old }
-        ensures text { text_in self.new ≡ text_in self.old }
-    {
-        let mut parts = self.parts;
-        let Some(header) = read_header(&mut parts)? else {
-            return Ok(None);
-        };
-        let mut matrix = [0; MOST_CODES];
-        read_rows(&mut parts, header, &mut matrix)?;
-        read_end(&mut parts)?;
-        let size = header.k * header.n;
-        codes[0..size].copy_from_slice(&matrix[0..size]);
-        *self = EntryReader { parts };
-        Ok(Some(header))
-    }
-
-    // Reads an entry, and what that means for the entries of the text.
-    fn hand_out(&mut self, codes: &mut [u8; MOST_CODES]) -> Result<Option<Header>, TextRefusal>
-        ensures value { result ≡ entry_answer self.old }
-        ensures after { EntryAfter self.old result self.new }
-        ensures codes { codes.new ≡ codes_after result (lines_left self.old) codes.old }
-        ensures text { text_in self.new ≡ text_in self.old }
-        ensures entries { HandsOut self.old result self.new }
-    {
-        self.read_entry(codes)
     }
 
     // The next entry: what its header says, and its codes in row order at the front of the caller's place; or the end of the text; or the first fault, which is given again.
@@ -165,6 +83,16 @@ impl<'t> EntryReader<'t> {
         ensures text { text_in self.new ≡ text_in self.old }
         ensures entries { HandsOut self.old result self.new }
     {
-        self.hand_out(codes)
+        let mut parts = self.parts;
+        let Some(header) = read_header(&mut parts)? else {
+            return Ok(None);
+        };
+        let mut matrix = [0; MOST_CODES];
+        read_rows(&mut parts, header, &mut matrix)?;
+        read_end(&mut parts)?;
+        let size = header.k * header.n;
+        codes[..size].copy_from_slice(&matrix[..size]);
+        *self = EntryReader { parts };
+        Ok(Some(header))
     }
 }

@@ -1,15 +1,15 @@
 // What the reader of parts does.
-ghost use Rattle.std.specs.Prelude.{◌≡◌, ◌+◌, ◌<◌, ◌≤◌, [], ◌∷◌, length, drop, MatchOption};
+ghost use Rattle.std.specs.Prelude.{◌≡◌, ◌+◌, ◌<◌, ◌≤◌, [], ◌∷◌, length, drop, Some, Ok, Err, MatchOption, MatchResult, OnOk, OnErr};
 ghost use Rattle.entries.specs.Lines.{lines};
-ghost use Rattle.entries.specs.Parts.{handed, next_part, rows_due};
+ghost use Rattle.entries.specs.Parts.{row_part, handed, next_part, rows_due};
 ghost use Rattle.entries.specs.Readers.{text_of, left, part_answer, After, Numbered, Placed};
 
 use super::{MOST_BYTES, PartReader};
 use crate::header::{Header, header_values, header_words};
 use crate::part::{Due, Part};
 use crate::refusal::TextRefusal;
-use crate::rows::row_fault;
-use crate::words::find_byte;
+use crate::rows::check_row;
+use crate::words::bytes_before;
 
 // The byte that ends a line.
 const BREAK: u8 = 10;
@@ -40,16 +40,15 @@ impl<'t> PartReader<'t> {
     fn next_line(&self) -> Option<Line<'t>>
         ensures value { MatchOption result (left self.now ≡ []) (λ l. (self.now.at < l.next) × (l.next ≤ length (text_of self.now)) × (left self.now ≡ l.bytes.now ∷ lines (drop l.next (text_of self.now)))) }
     {
-        let text = self.text;
-        let from = self.at;
-        if from >= text.len() {
+        let rest = &self.text[self.at..];
+        if rest.is_empty() {
             return None;
         }
-        let end = find_byte(text, from, BREAK);
-        let next = if end < text.len() { end + 1 } else { end };
+        let bytes = bytes_before(rest, BREAK);
+        let after = self.at + bytes.len() + 1;
         Some(Line {
-            bytes: &text[from..end],
-            next,
+            bytes,
+            next: after.min(self.text.len()),
         })
     }
 
@@ -69,7 +68,7 @@ impl<'t> PartReader<'t> {
 
     // The header that is due.
     fn header_part(&mut self) -> Result<Option<Part<'t>>, TextRefusal>
-        requires { (length (text_of self.old) ≤ 60000) × (self.old.due ≡ Due.Header) }
+        requires { self.old.due ≡ Due.Header }
         ensures value { handed result ≡ next_part Due.Header (left self.old) (self.old.passed + 1) }
         ensures after { After self.old (handed result) self.new }
         ensures place { Numbered (self.old.passed + 1) result }
@@ -79,9 +78,7 @@ impl<'t> PartReader<'t> {
             return Ok(None);
         };
         let line = self.passed + 1;
-        let Some(words) = header_words(found.bytes) else {
-            return Err(TextRefusal::HeaderShape { line });
-        };
+        let words = header_words(found.bytes).ok_or(TextRefusal::HeaderShape { line })?;
         let values = header_values(&words, line)?;
         self.pass(found, rows_due(values, values.k));
         Ok(Some(Part::Header {
@@ -91,32 +88,41 @@ impl<'t> PartReader<'t> {
         }))
     }
 
-    // The row that is due.
+    // The symbols of the row that is due.
+    pub(crate) fn next_row(&mut self, header: Header, after: usize) -> Result<&'t [u8], TextRefusal>
+        requires { self.old.due ≡ Due.Row header after }
+        ensures value { MatchResult result (λ s. Ok (Some (row_part s.now)) ≡ next_part (Due.Row header after) (left self.old) (self.old.passed + 1)) (λ f. Err f ≡ next_part (Due.Row header after) (left self.old) (self.old.passed + 1)) }
+        ensures after { OnOk result ((left self.new ≡ drop 1 (left self.old)) × (self.new.passed ≡ self.old.passed + 1) × (self.new.due ≡ rows_due header after)) }
+        ensures refused { OnErr result (self.new ≡ self.old) }
+        ensures text { text_of self.new ≡ text_of self.old }
+    {
+        let line = self.passed + 1;
+        let found = self.next_line().ok_or(TextRefusal::MissingRow { line })?;
+        check_row(found.bytes, header, line)?;
+        self.pass(found, rows_due(header, after));
+        Ok(found.bytes)
+    }
+
+    // The row that is due, as a part.
     fn row_part(&mut self, header: Header, after: usize) -> Result<Option<Part<'t>>, TextRefusal>
-        requires { (length (text_of self.old) ≤ 60000) × (self.old.due ≡ Due.Row header after) }
+        requires { self.old.due ≡ Due.Row header after }
         ensures value { handed result ≡ next_part (Due.Row header after) (left self.old) (self.old.passed + 1) }
         ensures after { After self.old (handed result) self.new }
         ensures place { Numbered (self.old.passed + 1) result }
         ensures text { text_of self.new ≡ text_of self.old }
     {
         let line = self.passed + 1;
-        let Some(found) = self.next_line() else {
-            return Err(TextRefusal::MissingRow { line });
-        };
-        if let Some(fault) = row_fault(found.bytes, header, line) {
-            return Err(fault);
-        }
-        self.pass(found, rows_due(header, after));
+        let symbols = self.next_row(header, after)?;
         Ok(Some(Part::Row {
-            symbols: found.bytes,
+            symbols,
             line,
             column: 1,
         }))
     }
 
     // The end of an entry that is due: the end of the text or an empty line.
-    fn ending_part(&mut self) -> Result<Option<Part<'t>>, TextRefusal>
-        requires { (length (text_of self.old) ≤ 60000) × (self.old.due ≡ Due.Ending) }
+    pub(crate) fn ending_part(&mut self) -> Result<Option<Part<'t>>, TextRefusal>
+        requires { self.old.due ≡ Due.Ending }
         ensures value { handed result ≡ next_part Due.Ending (left self.old) (self.old.passed + 1) }
         ensures after { After self.old (handed result) self.new }
         ensures place { Numbered (self.old.passed + 1) result }
@@ -136,7 +142,6 @@ impl<'t> PartReader<'t> {
 
     // The part that is due.
     fn due_part(&mut self) -> Result<Option<Part<'t>>, TextRefusal>
-        requires { length (text_of self.old) ≤ 60000 }
         ensures value { handed result ≡ next_part self.old.due (left self.old) (self.old.passed + 1) }
         ensures after { After self.old (handed result) self.new }
         ensures place { Placed (lines (text_of self.old)) (self.old.passed + 1) result }

@@ -1,7 +1,7 @@
--- The codes up to this place are those of the symbols.
-use Rattle.std.proofs.Common.{◌≡◌, take}
+-- The symbols before this place are written over by their codes.
+use Rattle.std.proofs.Common.{◌≡◌, ◌++◌, take, drop}
 use Rattle.entries.specs.Rows.{row_codes}
 use Rattle.entries.proofs.rows.decode_row.Given as goal
 
-abbrev pub invariant-loop-i : goal.invariant-loop-i
-invariant-loop-i l = take l.i l.codes ≡ row_codes (take l.i l.symbols)
+abbrev pub invariant-loop-code : goal.invariant-loop-code
+invariant-loop-code l = l.codes ≡ row_codes (take l.code-index l.symbols) ++ drop l.code-index l.symbols

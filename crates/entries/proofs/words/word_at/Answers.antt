@@ -1,17 +1,11 @@
 -- The word ends where the next byte between words stands, or with the line.
-use Rattle.std.proofs.Common.{◌≡◌, ◌-◌, length, take, drop, refl, arith, length-drop, length-take}
-use Rattle.entries.proofs.Pieces.{word_then}
+use Rattle.entries.proofs.Pieces.{the-rest, words_next}
 use Rattle.entries.proofs.words.word_at.Goals as goal
 
-pub returns : goal.returns
-returns c =
+pub returns-clause-cut : goal.returns-clause-cut
+returns-clause-cut c =
     let line = c.args.line.now in
     let from = c.args.from in
-    let end = c.find_byte-end.result in
-    let found = c.find_byte-end.ensures in
-    let long : length (take (end - from) (drop from line)) ≡ end - from = simp (length-take, length-drop) (omega (arith, found.within)) in
-    record {
-      place = (refl, rw long (omega (arith, found.within)));
-      part = rw long;
-      cut = rw long (word_then line from end found.within.0 found.within.1 found.before found.found);
-    }
+    let word = c.bytes_before.ensures in
+    let rest = the-rest line from in
+    words_next line from c.bytes_before.result.now c.requires (rw rest at word.part.1) (rw rest at word.before) (rw rest at word.found)

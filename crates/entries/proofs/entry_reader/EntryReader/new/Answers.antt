@@ -3,7 +3,7 @@ use Rattle.std.proofs.Common.{ℕ, take, sym, ap, subst, inl}
 use Rattle.entries.specs.Lines.{lines}
 use Rattle.entries.specs.Written.{Lined}
 use Rattle.entries.proofs.LineWords.{lined}
-use Rattle.entries.proofs.entry_reader.EntryReader.start.Goals as goal
+use Rattle.entries.proofs.entry_reader.EntryReader.new.Goals as goal
 
 pub returns : goal.returns
 returns c =
