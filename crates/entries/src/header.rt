@@ -143,9 +143,8 @@ impl Header {
     pub(crate) fn within_limits(self) -> bool
         ensures value { result ≡ within_limits self }
     {
-        if self.k < 1 || self.k > MOST_ROWS || self.n < self.k || self.n > MOST_SYMBOLS {
-            return false;
-        }
-        self.claim <= self.n * usize::from(self.weight.top(self.field))
+        (1..=MOST_ROWS).contains(&self.k)
+            && (self.k..=MOST_SYMBOLS).contains(&self.n)
+            && self.claim <= self.n * usize::from(self.weight.top(self.field))
     }
 }

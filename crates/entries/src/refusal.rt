@@ -76,6 +76,10 @@ impl TextRefusal {
 }
 
 impl fmt::Display for TextRefusal {
+    ghost use Rattle.std.specs.Prelude.{◌++◌, Some, codes, decimal};
+
+    ghost output = { λ r. Some (codes "text refused " ++ decimal (number r) ++ codes " line " ++ decimal (line r) ++ codes " column " ++ decimal (column r)) };
+
     fn fmt<W: fmt::Write>(&self, f: &mut fmt::Formatter<W>) -> fmt::Result {
         let number = self.number();
         let line = self.line();

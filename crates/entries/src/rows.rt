@@ -18,10 +18,10 @@ fn is_element(symbol: u8, order: u8) -> bool
 fn check_symbols(symbols: &[u8], order: u8, line: usize) -> Result<(), TextRefusal>
     ensures value { result_err result ≡ symbol_fault order line 1 symbols.now }
 {
-    match symbols
+    let wrong = symbols
         .iter()
-        .position(|symbol| !is_element(*symbol, order))
-    {
+        .position(|symbol| !is_element(*symbol, order));
+    match wrong {
         Some(i) => Err(TextRefusal::BadSymbol {
             line,
             column: i + 1,

@@ -4,7 +4,7 @@ ghost use Rattle.entries.specs.Lines.{words};
 ghost use Rattle.entries.specs.WordParts.{words_from};
 
 // The byte between two words.
-const SPACE: u8 = 32;
+const SPACE: u8 = b' ';
 
 // A word of a line, as it stands in the text, with its column from 1.
 #[derive(Clone, Copy, PartialEq, Eq, Debug)]

@@ -54,7 +54,7 @@ fn read_end(parts: &mut PartReader<'_>) -> Result<(), TextRefusal>
     ensures after { OnOk result ((left parts.new ≡ drop 1 (left parts.old)) × (parts.new.passed ≡ parts.old.passed + min 1 (length (left parts.old))) × (header_due parts.new.due ≡ true)) }
     ensures text { text_of parts.new ≡ text_of parts.old }
 {
-    let _ = parts.ending_part()?;
+    parts.ending_part()?;
     Ok(())
 }
 

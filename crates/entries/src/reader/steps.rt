@@ -12,7 +12,7 @@ use crate::rows::check_row;
 use crate::words::bytes_before;
 
 // The byte that ends a line.
-const BREAK: u8 = 10;
+const BREAK: u8 = b'\n';
 
 // A line of the text without its break, and where the line after it begins.
 #[derive(Clone, Copy)]

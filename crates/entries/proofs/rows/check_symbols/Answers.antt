@@ -26,7 +26,7 @@ pub returns-in-Some : goal.returns-in-Some
 returns-in-Some c =
     let s = c.args.symbols.now in
     let q = c.args.order in
-    let first = position_from_yields_List (λ b. not (is_element q b)) _ _ c.position.result c.position.ensures.ran (YieldsList-from_slice s cc) (λ x b f k. search (rules, tests)) in
+    let first = position_from_yields_List (λ b. not (is_element q b)) _ _ c.position-wrong.result c.position-wrong.ensures.ran (YieldsList-from_slice s cc) (λ x b f k. search (rules, tests)) in
     let at = position-Some (λ b. not (is_element q b)) s c.in-Some.i 0 (sym first ∙ c.in-Some.is) in
     record { value = fault-at q c.args.line 1 s c.in-Some.i at.0 (λ k low. not-false _ (at.2 k low)) (not-true _ at.1) }
 
