@@ -1,51 +1,48 @@
-// What a text comes to: how many entries it hands out, and how it ends.
+// What a text comes to: how many entries it hands out, and where it is refused.
 use entries::{EntryReader, MOST_CODES, TextRefusal};
-use std::test::Fail;
 
-// Reads a text to its end or its first fault.
-fn outcome(text: &[u8]) -> (usize, Option<TextRefusal>) {
-    let mut codes = [0; MOST_CODES];
-    let mut reader = EntryReader::new(text);
-    for entries in 0..60_000 {
-        match reader.next_entry(&mut codes) {
-            Ok(Some(_)) => {}
-            Ok(None) => return (entries, None),
-            Err(refusal) => return (entries, Some(refusal)),
-        }
-    }
-    (60_000, None)
-}
-
-// The answer is the one wanted.
-fn check(holds: bool) -> Result<(), Fail> {
-    if holds {
-        Ok(())
-    } else {
-        Err(Fail::new("another outcome"))
-    }
-}
-
-// The text hands out so many entries and then ends.
-pub fn ends(text: &[u8], entries: usize) -> Result<(), Fail> {
-    let (handed, refusal) = outcome(text);
-    check(handed == entries)?;
-    check(refusal.is_none())
-}
-
-// The text hands out so many entries and is then refused so.
-pub fn refused(
-    text: &[u8],
+// Where a text is refused: after how many entries, with what number, and at what place.
+#[derive(Clone, Copy, PartialEq, Eq, Debug)]
+pub struct Stop {
     entries: usize,
     number: u8,
     line: usize,
     column: usize,
-) -> Result<(), Fail> {
-    let (handed, refusal) = outcome(text);
-    check(handed == entries)?;
-    let Some(refusal) = refusal else {
-        return Err(Fail::new("no refusal"));
-    };
-    check(refusal.number() == number)?;
-    check(refusal.line() == line)?;
-    check(refusal.column() == column)
+}
+
+impl Stop {
+    // A refusal after so many entries.
+    fn new(entries: usize, refusal: TextRefusal) -> Stop {
+        Stop {
+            entries,
+            number: refusal.number(),
+            line: refusal.line(),
+            column: refusal.column(),
+        }
+    }
+}
+
+// Reads a text to its end, or to its first fault.
+pub fn outcome(text: &[u8]) -> Result<usize, Stop> {
+    let mut codes = [0; MOST_CODES];
+    let mut reader = EntryReader::new(text);
+    for entries in 0..60_000 {
+        let header = reader
+            .next_entry(&mut codes)
+            .map_err(|refusal| Stop::new(entries, refusal))?;
+        if header.is_none() {
+            return Ok(entries);
+        }
+    }
+    Ok(60_000)
+}
+
+// A text hands out so many entries and is then refused so.
+pub fn refused(entries: usize, number: u8, line: usize, column: usize) -> Result<usize, Stop> {
+    Err(Stop {
+        entries,
+        number,
+        line,
+        column,
+    })
 }
