@@ -47,10 +47,6 @@ unfolding cut
 lines_of_text [] all = refl
 lines_of_text (l ∷ ls) all = ap lines (append_assoc l (10 ∷ []) (text_of_lines ls)) ∙ cut-first 10 [] l (text_of_lines ls) all.0 ∙ ap (λ (us : List (List ℕ)). l ∷ us) (lines_of_text ls all.1)
 
--- a byte that is no break goes on with the first line
-text_onto : (b : ℕ) (p : List ℕ) (ps : List (List ℕ)) → text_of_lines (onto b (p ∷ ps)) ≡ b ∷ text_of_lines (p ∷ ps)
-text_onto b p ps = refl
-
 some-onto : (b : ℕ) (ls : List (List ℕ)) → (p : List ℕ) × (ps : List (List ℕ)) × (onto b ls ≡ p ∷ ps)
 some-onto b [] = (b ∷ [], [], refl)
 some-onto b (p ∷ ps) = (b ∷ p, ps, refl)

@@ -1,8 +1,9 @@
 -- A part handed out is what stands in the text at its line and column.
-use Rattle.std.proofs.Common.{◌≡◌, ℕ, zero, suc, ◌+◌, ◌-◌, ◌<◌, ◌≤◌, List, [], ◌∷◌, ◌++◌, length, get_or, take, drop, Some, None, Ok, Err, sum_by, Option, Result, sym, refl, ap, ◌∙◌, subst, suc-le-suc, zero-le, le_of_suc-le-suc, not-suc-le-zero, add-zero, arith}
+use Rattle.std.proofs.Common.{◌≡◌, ℕ, zero, suc, ◌+◌, ◌-◌, ◌<◌, ◌≤◌, leb, List, [], ◌∷◌, ◌++◌, length, get_or, take, drop, Some, None, Ok, Err, sum_by, Option, Result, sym, refl, ap, ◌∙◌, subst, suc-le-suc, zero-le, le_of_suc-le-suc, not-suc-le-zero, add-zero, arith}
 use Rattle.std.specs.List.{join_with_byte}
 use Rattle.std.proofs.lemmas.List.{take_at, take_all, drop_at, drop-drop, get_or-drop, length-drop}
 use Rattle.std.proofs.lemmas.List.Sums.{sum_by-cons}
+use Rattle.std.proofs.lemmas.Bool.{le-leb, cond-true}
 use Rattle.entries.specs.declared.header.Header.{Header}
 use Rattle.entries.specs.declared.part.Due.{Due}
 use Rattle.entries.specs.declared.part.Part.{Part}
@@ -13,7 +14,7 @@ use Rattle.entries.specs.Headers.{word_column, header_reading}
 use Rattle.entries.specs.HeaderWords.{word_list}
 use Rattle.entries.specs.Rows.{row_fault}
 use Rattle.entries.specs.Parts.{Content, header_part, row_part, gap_part, header_answer, row_answer, ending_answer, content, handed, next_part}
-use Rattle.entries.specs.Readers.{text_of, left, StandsAt, Placed, Numbered}
+use Rattle.entries.specs.Readers.{text_of, left, part_answer, StandsAt, Placed, Numbered}
 use Rattle.entries.proofs.LineWords.{line_of-words}
 
 -- a word of joined words stands where its column says
@@ -89,7 +90,7 @@ part_stands ls l i (Part.Gap n c) within here is numbered =
     (numbered.0, (omega (arith, numbered.0), numbered.1, ap (λ (j : ℕ). get_or ls j []) (omega (arith, numbered.0)) ∙ here ∙ is))
 
 -- what a reader hands out stands in its text
-pub placed : (r : PartReader) (a : Result (Option Part) TextRefusal) → handed a ≡ next_part r.due (left r) (r.passed + 1) → Numbered (r.passed + 1) a → Placed (lines (text_of r)) (r.passed + 1) a
+placed : (r : PartReader) (a : Result (Option Part) TextRefusal) → handed a ≡ next_part r.due (left r) (r.passed + 1) → Numbered (r.passed + 1) a → Placed (lines (text_of r)) (r.passed + 1) a
 placed r (Ok (Some p)) e numbered =
     let first = first-line r.due (left r) (r.passed + 1) (content p) e in
     let here : get_or (lines (text_of r)) r.passed [] ≡ get_or (left r) 0 [] =
@@ -97,3 +98,9 @@ placed r (Ok (Some p)) e numbered =
     part_stands (lines (text_of r)) (get_or (left r) 0 []) r.passed p (omega (arith, first.0, ap length r.place, length-drop r.passed (lines (text_of r)))) here first.1 numbered
 placed r (Ok None) e numbered = tt
 placed r (Err f) e numbered = tt
+
+-- the part that was due, as the answer of a reader of a text that is short enough
+pub part_given : (r : PartReader) (d : Due) (a : Result (Option Part) TextRefusal) → length (text_of r) ≤ 60000 → r.due ≡ d → handed a ≡ next_part d (left r) (r.passed + 1) → Numbered (r.passed + 1) a → (handed a ≡ part_answer r) × Placed (lines (text_of r)) (r.passed + 1) a
+part_given r d a few due value numbered =
+    let given = value ∙ ap (λ (e : Due). next_part e (left r) (r.passed + 1)) (sym due) in
+    (given ∙ sym (cond-true (leb (length (text_of r)) 60000) _ _ (le-leb _ _ few)), placed r a given numbered)

@@ -140,20 +140,6 @@ impl<'t> PartReader<'t> {
         Ok(Some(Part::Gap { line, column: 1 }))
     }
 
-    // The part that is due.
-    fn due_part(&mut self) -> Result<Option<Part<'t>>, TextRefusal>
-        ensures value { handed result ≡ next_part self.old.due (left self.old) (self.old.passed + 1) }
-        ensures after { After self.old (handed result) self.new }
-        ensures place { Placed (lines (text_of self.old)) (self.old.passed + 1) result }
-        ensures text { text_of self.new ≡ text_of self.old }
-    {
-        match self.due {
-            Due::Header => self.header_part(),
-            Due::Row { header, after } => self.row_part(header, after),
-            Due::Ending => self.ending_part(),
-        }
-    }
-
     // The next part of the text, or that there is none, or the first fault; a refusal moves nothing, so that it is given again.
     pub fn next_part(&mut self) -> Result<Option<Part<'t>>, TextRefusal>
         ensures value { handed result ≡ part_answer self.old }
@@ -164,7 +150,11 @@ impl<'t> PartReader<'t> {
         if self.text.len() > MOST_BYTES {
             return Err(TextRefusal::TooLong);
         }
-        self.due_part()
+        match self.due {
+            Due::Header => self.header_part(),
+            Due::Row { header, after } => self.row_part(header, after),
+            Due::Ending => self.ending_part(),
+        }
     }
 }
 
