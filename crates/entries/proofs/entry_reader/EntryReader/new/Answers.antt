@@ -5,14 +5,8 @@ use Rattle.entries.specs.Written.{Lined}
 use Rattle.entries.proofs.LineWords.{lined}
 use Rattle.entries.proofs.entry_reader.EntryReader.new.Goals as goal
 
-pub returns : goal.returns
-returns c =
-    let text = c.args.text.now in
-    let r = c.new.ensures in
-    record {
-      text = r.text;
-      lines = r.lines;
-      lined = subst (Lined text) (sym r.lines) (lined text);
-      place = r.place.0;
-      none = inl (ap (λ (n : ℕ). take n (lines c.new.result.text.now)) r.place.0);
-    }
+pub returns-clause-lined : goal.returns-clause-lined
+returns-clause-lined c = let text = c.args.text.now in subst (Lined text) (sym c.new.ensures.lines) (lined text)
+
+pub returns-clause-none : goal.returns-clause-none
+returns-clause-none c = inl (ap (λ (n : ℕ). take n (lines c.new.result.text.now)) c.new.ensures.place.0)
