@@ -4,6 +4,7 @@ use Rattle.std.specs.Option.{ok_or}
 use Rattle.std.proofs.lemmas.Bool.{and_parts, leb-true, cases_Bool, cond-true, cond-false}
 use Rattle.entries.specs.declared.header.Header.{Header}
 use Rattle.entries.specs.declared.names.FieldName.{FieldName}
+use Rattle.entries.specs.declared.names.WeightName.{WeightName}
 use Rattle.entries.specs.declared.refusal.TextRefusal.{TextRefusal}
 use Rattle.entries.specs.declared.refusal.TextRefusal.TheVariants.{HeaderShape, UnknownWeight, OutsideLimits}
 use Rattle.entries.specs.Lines.{words}
@@ -81,11 +82,18 @@ pub header-limits : (l : List ℕ) (i : ℕ) (h : Header) → header_reading l i
 header-limits l i h e = limits_of h (header_says l i h e).1.limits
 
 -- a value that was there
-pub some_of : {A : Type 0} (o : Option A) (f : TextRefusal) (x : A) → Ok x ≡ ok_or o f → o ≡ Some x
+some_of : {A : Type 0} (o : Option A) (f : TextRefusal) (x : A) → Ok x ≡ ok_or o f → o ≡ Some x
 some_of None f x e = absurd (let z : ◌≡◌ {A = ℕ} 0 1 = cc in omega arith)
 some_of (Some y) f x e = cc
 
--- the words of a header that are numbers and name a field
-module _ (ws : List (List ℕ)) (i n k claim : ℕ) (field : FieldName) (n_word : number_of (get_or ws 1 []) ≡ Some n) (k_word : number_of (get_or ws 2 []) ≡ Some k) (claim_word : number_of (get_or ws 3 []) ≡ Some claim) (field_word : field_named (get_or ws 4 []) ≡ Some field) where
-  pub values-weighed : given (weight_named (get_or ws 5 []) field) (UnknownWeight i (word_column ws 5)) (λ weight. let h : Header = record { n = n; k = k; claim = claim; field = field; weight = weight } in cond (within_limits h) (Ok h) (Err (OutsideLimits i))) ≡ values_of ws i
-  values-weighed = rw (n_word, k_word, claim_word, field_word) refl
+-- what follows the words of a header that are numbers and name a field
+abbrev weighed : List (List ℕ) → ℕ → ℕ → ℕ → ℕ → FieldName → Option WeightName → Result Header TextRefusal
+weighed ws i n k claim field w =
+    given w (UnknownWeight i (word_column ws 5)) (λ weight. let h : Header = record { n = n; k = k; claim = claim; field = field; weight = weight } in cond (within_limits h) (Ok h) (Err (OutsideLimits i)))
+
+module _ (ws : List (List ℕ)) (i : ℕ) (a b c d : TextRefusal) (n k claim : ℕ) (field : FieldName) (n_word : Ok n ≡ ok_or (number_of (get_or ws 1 [])) a) (k_word : Ok k ≡ ok_or (number_of (get_or ws 2 [])) b) (claim_word : Ok claim ≡ ok_or (number_of (get_or ws 3 [])) c) (field_word : Ok field ≡ ok_or (field_named (get_or ws 4 [])) d) where
+  pub values-weighed : weighed ws i n k claim field (weight_named (get_or ws 5 []) field) ≡ values_of ws i
+  values-weighed = rw (some_of _ _ _ n_word, some_of _ _ _ k_word, some_of _ _ _ claim_word, some_of _ _ _ field_word) refl
+
+  pub values-read : (e : TextRefusal) (weight : WeightName) → Ok weight ≡ ok_or (weight_named (get_or ws 5 []) field) e → weighed ws i n k claim field (Some weight) ≡ values_of ws i
+  values-read e weight weight_word = ap (weighed ws i n k claim field) (sym (some_of _ _ _ weight_word)) ∙ values-weighed

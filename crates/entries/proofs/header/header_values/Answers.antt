@@ -1,22 +1,20 @@
 -- The weight and the limits, once the words before them are read.
 use Rattle.std.proofs.Common.{rules}
 use Rattle.entries.specs.HeaderWords.{word_list}
-use Rattle.entries.proofs.HeaderValues.{some_of, values-weighed}
+use Rattle.entries.proofs.HeaderValues.{values-weighed, values-read}
 use Rattle.entries.proofs.header.header_values.Goals as goal
 
 pub returns-in_err-weight : goal.returns-in_err-weight
 returns-in_err-weight c =
-    let weighed = values-weighed (word_list c.args.words.now) c.args.line c.in_ok-n.n c.in_ok-k.k c.in_ok-claim.claim c.in_ok-field.field (some_of _ _ _ c.in_ok-n.ensures.value) (some_of _ _ _ c.in_ok-k.ensures.value) (some_of _ _ _ c.in_ok-claim.ensures.value) (some_of _ _ _ c.in_ok-field.ensures.value) in
+    let weighed = values-weighed (word_list c.args.words.now) c.args.line _ _ _ _ _ _ _ _ c.in_ok-n.ensures.value c.in_ok-k.ensures.value c.in_ok-claim.ensures.value c.in_ok-field.ensures.value in
     record { value = search (rules, weighed) }
 
 pub returns-then-within_limits : goal.returns-then-within_limits
 returns-then-within_limits c =
-    let weighed = values-weighed (word_list c.args.words.now) c.args.line c.in_ok-n.n c.in_ok-k.k c.in_ok-claim.claim c.in_ok-field.field (some_of _ _ _ c.in_ok-n.ensures.value) (some_of _ _ _ c.in_ok-k.ensures.value) (some_of _ _ _ c.in_ok-claim.ensures.value) (some_of _ _ _ c.in_ok-field.ensures.value) in
-    let weight = some_of _ _ _ c.in_ok-weight.ensures.value in
-    record { value = search (rules, rw weight at weighed) }
+    let read = values-read (word_list c.args.words.now) c.args.line _ _ _ _ _ _ _ _ c.in_ok-n.ensures.value c.in_ok-k.ensures.value c.in_ok-claim.ensures.value c.in_ok-field.ensures.value _ _ c.in_ok-weight.ensures.value in
+    record { value = search (rules, read) }
 
 pub returns-else-within_limits : goal.returns-else-within_limits
 returns-else-within_limits c =
-    let weighed = values-weighed (word_list c.args.words.now) c.args.line c.in_ok-n.n c.in_ok-k.k c.in_ok-claim.claim c.in_ok-field.field (some_of _ _ _ c.in_ok-n.ensures.value) (some_of _ _ _ c.in_ok-k.ensures.value) (some_of _ _ _ c.in_ok-claim.ensures.value) (some_of _ _ _ c.in_ok-field.ensures.value) in
-    let weight = some_of _ _ _ c.in_ok-weight.ensures.value in
-    record { value = search (rules, rw weight at weighed) }
+    let read = values-read (word_list c.args.words.now) c.args.line _ _ _ _ _ _ _ _ c.in_ok-n.ensures.value c.in_ok-k.ensures.value c.in_ok-claim.ensures.value c.in_ok-field.ensures.value _ _ c.in_ok-weight.ensures.value in
+    record { value = search (rules, read) }
