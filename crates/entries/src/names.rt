@@ -1,5 +1,5 @@
 // The words by which a header names its field and its symbol weight.
-ghost use Rattle.std.specs.Prelude.{◌≡◌, [], ◌∷◌, Some};
+ghost use Rattle.std.specs.Prelude.{◌≡◌, [], ◌∷◌, Some, codes};
 ghost use Rattle.std.specs.Option.{ok_or};
 ghost use Rattle.entries.specs.declared.names.WeightName.TheVariants.{Hamming, Lee};
 ghost use Rattle.entries.specs.Names.{order, top, field_word, weight_word, named, field_named, goes_with, weight_named};
@@ -159,6 +159,8 @@ impl fmt::Display for WeightName {
 }
 
 impl fmt::Display for UnknownName {
+    ghost output = { λ _. Some (codes "a word that names no field and no symbol weight") };
+
     fn fmt<W: fmt::Write>(&self, f: &mut fmt::Formatter<W>) -> fmt::Result {
         f.write_str("a word that names no field and no symbol weight")
     }
