@@ -6,9 +6,9 @@ ghost use Rattle.entries.specs.Symbols.{code_of};
 pub fn symbol_code(symbol: u8) -> Option<u8>
     ensures value { result ≡ code_of symbol }
 {
-    match symbol {
-        b'0'..=b'9' => Some(symbol - b'0'),
-        b'a'..=b'c' => Some(symbol - b'a' + 10),
+    match symbol as char {
+        '0'..='9' => Some(symbol - b'0'),
+        'a'..='c' => Some(symbol - b'a' + 10),
         _ => None,
     }
 }

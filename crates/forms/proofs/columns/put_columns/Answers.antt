@@ -7,9 +7,6 @@ use Rattle.forms.proofs.columns.put_columns.Goals.{then-is_wanted, else-is_wante
 pub bounds-order-end : goal.bounds-order-end
 bounds-order-end c = put_room c.loop-c.invariant c.args.n 64 c.loop-c-test.true (sym c.is_wanted.ensures.value ∙ c.if-is_wanted.true) c.requires.1
 
-pub overflow_add-end : goal.overflow_add-end
-overflow_add-end c = omega (arith, bounds-order-end c)
-
 pub loop-c-preserved : goal.loop-c-preserved
 loop-c-preserved c =
     let wanted = sym c.is_wanted.ensures.value in

@@ -1,13 +1,8 @@
 -- A list without a fault makes a lawful table.
-use Rattle.std.proofs.Common.{◌≡◌, ℕ, ◌-◌, ◌<◌, ◌≤◌, ◌∷◌, length, get_or, ap, ◌∙◌, ⊎_elim, arith}
+use Rattle.std.proofs.Common.{◌≡◌, ℕ, ◌-◌, ◌<◌, ◌≤◌, length, get_or, ap, ◌∙◌, ⊎_elim, arith}
 use Rattle.std.proofs.lemmas.Bool.{cases_eq}
-use Rattle.fields.proofs.WeightLists.{no_table_fault, same_table, shifted_same}
+use Rattle.fields.proofs.WeightLists.{no_table_fault}
 use Rattle.fields.proofs.table.steps.filled.Goals as goal
-
-pub shifted-of-requires : goal.shifted-of-requires
-shifted-of-requires c =
-    let good = no_table_fault c.args.q.value c.args.weights.now c.requires in
-    omega (arith, good.high, good.long)
 
 pub invariant_of-result : goal.invariant_of-result
 invariant_of-result c =
@@ -23,9 +18,3 @@ invariant_of-result c =
       positive = λ a some below. (at a some below).0;
       bounded = λ a below. ⊎_elim (λ none. omega (arith, ap (λ (k : ℕ). get_or of k 0) none, c.shifted-of.ensures.zero)) (λ some. (at a (omega arith) below).1) (cases_eq a 0);
     }
-
-pub returns : goal.returns
-returns c =
-    let ws = c.args.weights.now in
-    let good = no_table_fault c.args.q.value ws c.requires in
-    record { value = same_table c.args.q.value c.shifted-of.result (0 ∷ ws) (λ a h. shifted_same c.shifted-of.result ws c.shifted-of.ensures.zero c.shifted-of.ensures.rest a (omega (arith, good.long))) }

@@ -1,9 +1,9 @@
 -- One form more, and the end of the forms.
-use Rattle.std.proofs.Common.{◌≡◌, ◌<◌, length, take, arith}
+use Rattle.std.proofs.Common.{◌<◌, length, take, arith}
 use Rattle.forms.specs.Matrices.{rows_of}
 use Rattle.forms.proofs.RowLists.{length-rows}
 use Rattle.forms.proofs.SystematicForms.{are_systematic}
-use Rattle.forms.proofs.FormsSoFar.{so_far_none, so_far_more, so_far_ended, so_far_all, next_positions, next_below}
+use Rattle.forms.proofs.FormsSoFar.{so_far_none, so_far_more, so_far_ended, next_positions, next_below}
 use Rattle.forms.proofs.generator.GeneratorMatrix.forms.Goals as goal
 
 pub loop-j-init : goal.loop-j-init
@@ -34,8 +34,5 @@ loop-j-preserved g c =
     let room : c.loop-j.j < length c.args.forms.now = omega (arith, c.told-forms, c.loop-j-test.true) in
     so_far_more c.loop-j.invariant c.args.self.now.rows.narrow c.loop-j-test.true room c.if-not-has_open_column.ensures.value next is (take k next.positions) places c.mark.new.marks c.mark.ensures.after
 
-pub returns : goal.returns
-returns g c =
-    let full : c.loop-j.j ≡ 8 = omega (arith, c.loop-j-test.false, c.loop-j.auto.j-end) in
-    let end = so_far_all c.loop-j.invariant full in
-    record { value = end.0; after = end.1; systematic = are_systematic (g.met.F.Field.lawful c.args.self.now.rows.field.now) c.args.self.now.rows.coded c.args.self.now.independent }
+pub returns-clause-systematic : goal.returns-clause-systematic
+returns-clause-systematic g c = are_systematic (g.met.F.Field.lawful c.args.self.now.rows.field.now) c.args.self.now.rows.coded c.args.self.now.independent

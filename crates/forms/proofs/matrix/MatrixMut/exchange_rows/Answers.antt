@@ -1,11 +1,7 @@
 -- One column more, and the whole rows.
-use Rattle.std.proofs.Common.{refl}
 use Rattle.forms.proofs.Flat.{has_row}
-use Rattle.forms.proofs.Exchanges.{exchanged_none, exchanged_more, exchanged_all}
+use Rattle.forms.proofs.Exchanges.{exchanged_more, exchanged_all}
 use Rattle.forms.proofs.matrix.MatrixMut.exchange_rows.Goals as goal
-
-pub loop-c-init : goal.loop-c-init
-loop-c-init c = (exchanged_none c.args.self.now.n c.args.self.now.codes.now c.args.i c.args.j, (refl, refl, refl))
 
 pub loop-c-preserved : goal.loop-c-preserved
 loop-c-preserved c =

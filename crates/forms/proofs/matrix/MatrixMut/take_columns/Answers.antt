@@ -1,7 +1,6 @@
 -- One column more, and the end of the columns.
 use Rattle.std.proofs.Common.{◌≡◌, ℕ, ◌+◌, ◌*◌, ◌<◌, Bool, true, false, List, [], ◌∷◌, ◌++◌, length, get_or, take, drop, set, sym, refl, ap, ◌∙◌, subst, ap₂, subst₂, arith}
 use Rattle.std.proofs.lemmas.List.{length-take-le, take_more_set, drop_more, drop_all, drop-drop, drop-set-lt}
-use Rattle.std.proofs.ByRecursion.{All-get_or}
 use Rattle.std.proofs.lemmas.Bool.{eq-eqb, cond-true}
 use Rattle.theory.specs.Meanings.{FieldMeaning, FieldLaws}
 use Rattle.theory.proofs.Algebra.Combinations.{Rows, rows_from}
@@ -39,11 +38,6 @@ module _ {f : FieldMeaning} {negative inverse : ℕ → ℕ} (laws : FieldLaws f
       let first : symbol_at n middle r c ≡ symbol_at n now p c = ap (λ u. get_or u c 0) (T.3.1 r (has_row n k now r e h) ∙ cond-true _ _ _ (eq-eqb r r refl)) in
       picking_takes laws R t p T.2.0 (omega (arith, length-rows k n codes, T.2.1)) (omega (arith, symbol_rows k n now p c T.2.1, T.2.2)) exchange refl (pivoted_gained laws k n middle r c after h T.4)
       (λ i l ne. pivoted_clear laws k n middle r c after h T.4 words (omega (arith, first, T.2.2)) i (omega (arith, length-rows k n codes)) ne)
-
-pub take_column-requires : goal.take_column-requires
-take_column-requires g c =
-    let low : get_or c.args.order.now c.loop-c.c-index 0 < c.args.self.now.n = All-get_or (λ x. x < c.args.self.now.n) c.args.order.now c.loop-c.c-index 0 c.loop-c-test.true c.requires.columns in
-    (omega (arith, c.loop-c.invariant.4.1, c.requires.shape.0), omega (arith, c.from.ensures, low, c.loop-c.invariant.4.1), c.if-done-self.true)
 
 pub loop-c-init : goal.loop-c-init
 loop-c-init g c =
