@@ -57,7 +57,3 @@ pub divided_leader : {f : FieldMeaning} {negative inverse : ℕ → ℕ} (laws :
 divided_leader {f} {negative} {inverse} laws u v is c e codes some =
     is ∙ ap (λ (m : FieldMeaning). times m (inverse (first_nonzero u)) u) (sym e)
     ∙ called_leader c (subst (λ (m : FieldMeaning). FieldLaws m negative inverse) (sym e) laws) u (All-from_get_or (λ a. a < c.field.order) u 0 codes) (T_false (is_zero u) some)
-
--- a word multiplied by the inverse a of its first nonzero symbol b
-pub divided_is : (f : FieldMeaning) (inverse : ℕ → ℕ) (u v : List ℕ) (a b : ℕ) → b ≡ first_nonzero u → a ≡ inverse b → v ≡ times f a u → v ≡ times f (inverse (first_nonzero u)) u
-divided_is f inverse u v a b first inverted multiplied = multiplied ∙ ap (λ (x : ℕ). times f x u) (inverted ∙ ap inverse first)

@@ -1,2 +1,3 @@
+pub mod FirstSymbols
 pub mod Leaders
 pub mod Multiples
