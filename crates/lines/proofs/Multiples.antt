@@ -1,9 +1,9 @@
 -- The weights of the multiples of a word, by factor, and the least of them.
-use Rattle.std.proofs.Common.{◌≡◌, ℕ, ◌+◌, ◌-◌, ◌<◌, ◌≤◌, min, List, [], ◌∷◌, ◌++◌, map, length, get_or, take, set, sym, refl, ap, ◌∙◌, subst, ap₂, arith, length-set}
-use Rattle.std.specs.List.{range_with_len}
-use Rattle.std.proofs.lemmas.List.{take_all, take_more_set, map_more, map_push}
+use Rattle.std.proofs.Common.{◌≡◌, ℕ, ◌+◌, ◌-◌, ◌^◌, ◌<◌, ◌≤◌, min, List, [], ◌∷◌, ◌++◌, map, length, take, set, sym, refl, ap, ◌∙◌, ap₂, arith, length-set}
+use Rattle.std.specs.List.{range_with_len, fold}
+use Rattle.std.proofs.lemmas.List.{take_more_set, map_push}
 use Rattle.std.proofs.lemmas.List.FromFn.{map-range_with_len_more}
-use Rattle.std.proofs.lemmas.List.Sums.{sum_by_push}
+use Rattle.std.proofs.lemmas.List.Sums.{sum_by-cons}
 use Rattle.theory.specs.Meanings.{FieldMeaning, WeightMeaning, WeightLaws}
 use Rattle.theory.specs.Codes.{times, weigh, least, multiples, line_weight}
 use Rattle.fields.proofs.Symbols.{length-times}
@@ -16,12 +16,16 @@ least_push [] x m = omega arith
 least_push (y ∷ xs) x m = omega (arith, least_push xs x m)
 
 module _ (f : FieldMeaning) (w : WeightMeaning) (u : List ℕ) where
-  -- the multiple of the word's first symbols with one symbol more, whose product p weighs x
-  pub weigh-more : (c i p x : ℕ) → i < length u → p ≡ f.product c (get_or u i 0) → x ≡ w.of p → weigh w (times f c (take (i + 1) u)) ≡ weigh w (times f c (take i u)) + x
-  weigh-more c i p x h e k = ap (weigh w) (map_more (λ a. f.product c a) u i 0 h) ∙ sum_by_push w.of (times f c (take i u)) (f.product c (get_or u i 0)) ∙ ap (λ (y : ℕ). weigh w (times f c (take i u)) + y) (sym (k ∙ ap w.of e))
+  -- the weights of a multiple's symbols, added with a stop at the largest number of 32 bits
+  added : (c a : ℕ) (v : List ℕ) → fold (λ s x. min (s + x) (2 ^ 32 - 1)) (min a (2 ^ 32 - 1)) (map (λ b. w.of (f.product c b)) v) ≡ min (a + weigh w (times f c v)) (2 ^ 32 - 1)
+  added c a [] = omega arith
+  added c a (b ∷ v) =
+      let x = w.of (f.product c b) in
+      ap (λ s. fold (λ s y. min (s + y) (2 ^ 32 - 1)) s (map (λ d. w.of (f.product c d)) v)) (omega arith)
+      ∙ added c (a + x) v ∙ omega (arith, sum_by-cons w.of (f.product c b) (times f c v))
 
-  pub weigh_all : (c i total : ℕ) → length u ≤ i → total ≡ weighed w (times f c (take i u)) → total ≡ weighed w (times f c u)
-  weigh_all c i total l e = e ∙ ap (λ (v : List ℕ). weighed w (times f c v)) (take_all i u l)
+  pub added_weights : (c r : ℕ) → r ≡ fold (λ s x. min (s + x) (2 ^ 32 - 1)) 0 (map (λ b. w.of (f.product c b)) u) → r ≡ weighed w (times f c u)
+  added_weights c r e = omega (arith, e, added c 0 u)
 
   -- the weights of the first n multiples
   abbrev pub first-weights : ℕ → List ℕ
@@ -39,33 +43,33 @@ module _ (f : FieldMeaning) (w : WeightMeaning) (u : List ℕ) where
   pub weighed-none : (weights : List ℕ) (m : ℕ) → length weights ≡ 15 → m ≡ weighed w u → WeighedTo 0 weights m
   weighed-none weights m l e = record { long = l; done = refl; lowest = e }
 
-  pub weighed-more : (i : ℕ) (weights : List ℕ) (m x n : ℕ) → WeighedTo i weights m → i < 15 → x ≡ weighed w (times f (i + 1) u) → n ≡ min m x → WeighedTo (i + 1) (set weights i x) n
-  weighed-more i weights m x n h l e lower = record {
-    long = length-set weights i x ∙ h.long;
-    done = take_more_set weights i x (omega (arith, h.long)) ∙ ap₂ (λ (xs : List ℕ) (y : ℕ). xs ++ y ∷ []) h.done e ∙ sym (first-weights-more i);
-    lowest = lower ∙ ap₂ min h.lowest e ∙ sym (least_push (first-weights i) (weighed w (times f (i + 1) u)) (weighed w u)) ∙ ap (λ (xs : List ℕ). least xs (weighed w u)) (sym (first-weights-more i));
-  }
-
-  -- with the last factor, all multiples are weighed
-  pub weighed_all : (i n : ℕ) (weights : List ℕ) (m : ℕ) → n ≡ f.order - 1 → n ≤ i → i ≤ n → WeighedTo i weights m → (take n weights ≡ map (weighed w) (multiples f u)) × (m ≡ least (map (weighed w) (multiples f u)) (weighed w u))
-  weighed_all i n weights m e low high h =
-      let last : i ≡ n = omega arith in
-      (subst (λ (k : ℕ). take k weights ≡ first-weights k) last h.done ∙ ap first-weights e, h.lowest ∙ ap (λ (k : ℕ). least (first-weights k) (weighed w u)) (last ∙ e))
+  pub weighed-more : (i c p : ℕ) (weights : List ℕ) (m x n : ℕ) → WeighedTo i weights m → c ≡ i + 1 → p ≡ i → i < 15 → x ≡ weighed w (times f c u) → n ≡ min m x → WeighedTo (i + 1) (set weights p x) n
+  weighed-more i c p weights m x n h next at l e lower =
+      let place : set weights i x ≡ set weights p x = ap (λ k. set weights k x) (sym at) in
+      let is : x ≡ weighed w (times f (i + 1) u) = e ∙ ap (λ d. weighed w (times f d u)) next in
+      record {
+        long = ap length (sym place) ∙ length-set weights i x ∙ h.long;
+        done = ap (take (i + 1)) (sym place) ∙ take_more_set weights i x (omega (arith, h.long)) ∙ ap₂ (λ (xs : List ℕ) (y : ℕ). xs ++ y ∷ []) h.done is ∙ sym (first-weights-more i);
+        lowest = lower ∙ ap₂ min h.lowest is ∙ sym (least_push (first-weights i) (weighed w (times f (i + 1) u)) (weighed w u)) ∙ ap (λ (xs : List ℕ). least xs (weighed w u)) (sym (first-weights-more i));
+      }
 
   -- the weights of a word of up to 64 symbols and of its multiples are exact
   module _ (laws : WeightLaws w) (few : length u ≤ 64) where
-    pub weighed-word : weighed w u ≡ weigh w u
+    weighed-word : weighed w u ≡ weigh w u
     weighed-word = omega (arith, word_most w laws u)
 
-    pub weighed_multiple : (c : ℕ) → weighed w (times f c u) ≡ weigh w (times f c u)
+    weighed_multiple : (c : ℕ) → weighed w (times f c u) ≡ weigh w (times f c u)
     weighed_multiple c = omega (arith, word_most w laws (times f c u), length-times f c u)
 
     weighed-list : (cs : List ℕ) → map (weighed w) (map (λ c. times f c u) cs) ≡ map (weigh w) (map (λ c. times f c u) cs)
     weighed-list [] = refl
     weighed-list (c ∷ cs) = ap₂ ◌∷◌ (weighed_multiple c) (weighed-list cs)
 
-    pub weighed-multiples : map (weighed w) (multiples f u) ≡ map (weigh w) (multiples f u)
+    weighed-multiples : map (weighed w) (multiples f u) ≡ map (weigh w) (multiples f u)
     weighed-multiples = weighed-list (range_with_len 1 (f.order - 1))
 
-    pub weighed-line : least (map (weighed w) (multiples f u)) (weighed w u) ≡ line_weight f w u
-    weighed-line = ap₂ least weighed-multiples weighed-word
+    -- with the last factor, all multiples are weighed
+    pub exact_line : (i n : ℕ) (weights : List ℕ) (m : ℕ) → i ≡ f.order - 1 → n ≡ i → WeighedTo i weights m → (take n weights ≡ map (weigh w) (multiples f u)) × (m ≡ line_weight f w u)
+    exact_line i n weights m last count h =
+        let all : first-weights i ≡ map (weighed w) (multiples f u) = ap first-weights last in
+        (ap (λ k. take k weights) count ∙ h.done ∙ all ∙ weighed-multiples, h.lowest ∙ ap₂ least (all ∙ weighed-multiples) weighed-word)

@@ -1,5 +1,5 @@
 // The weights of the words of a line.
-ghost use Rattle.std.specs.Prelude.{◌≡◌, ◌-◌, ◌<◌, ◌≤◌, length};
+ghost use Rattle.std.specs.Prelude.{◌≡◌, ◌-◌, ◌<◌, ◌≤◌, length, take};
 ghost use Rattle.theory.specs.Codes.{times};
 ghost use Rattle.lines.specs.LineWeights.{weighed, Weighs, WeighsLine};
 
@@ -13,36 +13,22 @@ pub struct LineWeights {
     pub least: u32,
 }
 
+impl LineWeights {
+    // The weights that count; all of them, where `count` is past their end.
+    pub fn as_slice(&self) -> &[u32]
+        ensures value { result.now ≡ take self.now.count self.now.weights }
+    {
+        self.weights.get(..self.count).unwrap_or(&self.weights)
+    }
+}
+
 // The weight of a multiple of a word, which stops at the largest number of 32 bits.
 fn multiple_weight<F: Field, W: SymbolWeight>(field: &F, weight: &W, factor: u8, word: &[u8]) -> u32
     ensures value { result ≡ weighed (W.SymbolWeight.meaning weight.now) (times (F.Field.meaning field.now) factor word.now) }
 {
-    let mut total: u32 = 0;
-    for a in word {
-        total = total.saturating_add(u32::from(weight.weight(field.product(factor, *a))));
-    }
-    total
-}
-
-// The weights of all multiples.
-fn weigh_multiples<F: Field, W: SymbolWeight>(field: &F, weight: &W, word: &[u8]) -> LineWeights
-    ensures value { Weighs (F.Field.meaning field.now) (W.SymbolWeight.meaning weight.now) word.now result }
-    ensures exact { length word.now ≤ 64 → WeighsLine (F.Field.meaning field.now) (W.SymbolWeight.meaning weight.now) word.now result }
-    ensures count { (result.count ≡ (F.Field.meaning field.now).order - 1) × (result.count ≤ 15) }
-{
-    let mut weights = [0u32; 15];
-    let mut least = word_weight(weight, word);
-    let count = usize::from(field.order() - 1);
-    for i in 0..count {
-        let next = multiple_weight(field, weight, (i + 1) as u8, word);
-        weights[i] = next;
-        least = least.min(next);
-    }
-    LineWeights {
-        weights,
-        count,
-        least,
-    }
+    word.iter()
+        .map(|a| u32::from(weight.weight(field.product(factor, *a))))
+        .fold(0, u32::saturating_add)
 }
 
 // The weights of the words of a word's line. They stop at the largest number of 32 bits, which no word of up to 64 symbols comes near.
@@ -51,5 +37,16 @@ pub fn line_weights<F: Field, W: SymbolWeight>(field: &F, weight: &W, word: &[u8
     ensures exact { length word.now ≤ 64 → WeighsLine (F.Field.meaning field.now) (W.SymbolWeight.meaning weight.now) word.now result }
     ensures count { (result.count ≡ (F.Field.meaning field.now).order - 1) × (result.count ≤ 15) }
 {
-    weigh_multiples(field, weight, word)
+    let mut weights = [0; 15];
+    let mut least = word_weight(weight, word);
+    for factor in 1..field.order() {
+        let next = multiple_weight(field, weight, factor, word);
+        weights[usize::from(factor - 1)] = next;
+        least = least.min(next);
+    }
+    LineWeights {
+        weights,
+        count: usize::from(field.order() - 1),
+        least,
+    }
 }
