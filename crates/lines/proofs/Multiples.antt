@@ -11,7 +11,7 @@ use Rattle.fields.proofs.WeightLists.{word_most}
 use Rattle.lines.specs.LineWeights.{weighed}
 
 -- the least of a list with one more at its end
-pub least_push : (xs : List ℕ) (x m : ℕ) → least (xs ++ x ∷ []) m ≡ min (least xs m) x
+least_push : (xs : List ℕ) (x m : ℕ) → least (xs ++ x ∷ []) m ≡ min (least xs m) x
 least_push [] x m = omega arith
 least_push (y ∷ xs) x m = omega (arith, least_push xs x m)
 
@@ -28,10 +28,10 @@ module _ (f : FieldMeaning) (w : WeightMeaning) (u : List ℕ) where
   added_weights c r e = omega (arith, e, added c 0 u)
 
   -- the weights of the first n multiples
-  abbrev pub first-weights : ℕ → List ℕ
+  abbrev first-weights : ℕ → List ℕ
   first-weights n = map (weighed w) (map (λ c. times f c u) (range_with_len 1 n))
 
-  pub first-weights-more : (i : ℕ) → first-weights (i + 1) ≡ first-weights i ++ weighed w (times f (i + 1) u) ∷ []
+  first-weights-more : (i : ℕ) → first-weights (i + 1) ≡ first-weights i ++ weighed w (times f (i + 1) u) ∷ []
   first-weights-more i = ap (map (weighed w)) (map-range_with_len_more (λ c. times f c u) 1 i (i + 1) (omega arith)) ∙ map_push (weighed w) (map (λ c. times f c u) (range_with_len 1 i)) (times f (i + 1) u)
 
   -- the first i weights stand in an array of 15, and m is the least of them and of the weight of the word
@@ -40,9 +40,7 @@ module _ (f : FieldMeaning) (w : WeightMeaning) (u : List ℕ) where
     pub done : take i weights ≡ first-weights i
     pub lowest : m ≡ least (first-weights i) (weighed w u)
 
-  pub weighed-none : (weights : List ℕ) (m : ℕ) → length weights ≡ 15 → m ≡ weighed w u → WeighedTo 0 weights m
-  weighed-none weights m l e = record { long = l; done = refl; lowest = e }
-
+  -- one multiple more, by the factor c, whose weight x stands at place p
   pub weighed-more : (i c p : ℕ) (weights : List ℕ) (m x n : ℕ) → WeighedTo i weights m → c ≡ i + 1 → p ≡ i → i < 15 → x ≡ weighed w (times f c u) → n ≡ min m x → WeighedTo (i + 1) (set weights p x) n
   weighed-more i c p weights m x n h next at l e lower =
       let place : set weights i x ≡ set weights p x = ap (λ k. set weights k x) (sym at) in
