@@ -11,9 +11,6 @@ pub record Written (symbol : ℕ → ℕ) (before : List ℕ) (i : ℕ) (after :
   pub done : (k : ℕ) → k < i → get_or after k 0 ≡ symbol k
   pub rest : (k : ℕ) → i ≤ k → get_or after k 0 ≡ get_or before k 0
 
-pub written_none : (symbol : ℕ → ℕ) (u : List ℕ) → Written symbol u 0 u
-written_none symbol u = record { same = refl; done = λ k l. absurd (omega arith); rest = λ k l. refl }
-
 pub written-more : (symbol : ℕ → ℕ) (before : List ℕ) (i : ℕ) (after : List ℕ) (a : ℕ) → Written symbol before i after → i < length after → a ≡ symbol i → Written symbol before (i + 1) (set after i a)
 written-more symbol before i after a h l e = record {
   same = length-set after i a ∙ h.same;
@@ -39,12 +36,6 @@ module _ (f : FieldMeaning) where
   -- symbol k of a multiple
   abbrev pub multiplied : ℕ → List ℕ → ℕ → ℕ
   multiplied c u k = f.product c (get_or u k 0)
-
-  pub times_all : (c : ℕ) (u : List ℕ) (i : ℕ) (after : List ℕ) → length u ≤ i → Written (multiplied c u) u i after → after ≡ times f c u
-  times_all c u i after le h =
-      ext_get_or 0 after (times f c u) (h.same ∙ sym (length-times c u)) (λ k l.
-      let inside : k < length u = omega (arith, h.same) in
-      h.done k (omega arith) ∙ sym (get_or-map (λ a. f.product c a) u k 0 0 inside))
 
   -- symbol k of a sum with a multiple
   abbrev pub gained : ℕ → List ℕ → List ℕ → ℕ → ℕ

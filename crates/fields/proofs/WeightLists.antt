@@ -1,14 +1,13 @@
 -- Lists of weights without a fault, and the weight of a short word.
-use Rattle.std.proofs.Common.{refl, ◌≡◌, ℕ, zero, suc, ◌+◌, ◌*◌, ◌<◌, ◌≤◌, Bool, not, cond, ◌&&◌, eqb, ltb, leb, List, [], ◌∷◌, length, get_or, position, Some, None, sym, ap, ◌∙◌, ⊎_elim, le_of_suc-le-suc, not-suc-le-zero, add-one, arith}
-use mathlib.Core.Path.{fun_ext}
+use Rattle.std.proofs.Common.{refl, ◌≡◌, ℕ, zero, suc, ◌+◌, ◌*◌, ◌<◌, ◌≤◌, Bool, not, cond, ◌&&◌, eqb, leb, List, [], ◌∷◌, length, get_or, position, Some, None, sym, ap, ◌∙◌, ⊎_elim, le_of_suc-le-suc, not-suc-le-zero, arith}
 use Rattle.std.specs.List.{position_from}
 use Rattle.std.specs.Option.{option_map}
 use Rattle.std.proofs.lemmas.Iterator.Adapters.{position_from-zero}
 use Rattle.std.proofs.ByRecursion.{All-from_get_or, sum_by_le}
-use Rattle.std.proofs.lemmas.Bool.{cases_Bool, cases_lt, and_parts, leb-true, cond-true, cond-false, lt-ltb, le-ltb, eqb-true}
+use Rattle.std.proofs.lemmas.Bool.{cases_Bool, cases_lt, and_parts, leb-true, cond-true, cond-false, eqb-true}
 use Rattle.fields.specs.declared.refusal.FieldRefusal.{FieldRefusal}
 use Rattle.fields.specs.declared.refusal.FieldRefusal.TheVariants.{WeightOutside, ListLength, OrderOutside}
-use Rattle.fields.specs.Tables.{weight_fault, table_of, in_range, table_fault}
+use Rattle.fields.specs.Tables.{weight_fault, in_range, table_fault}
 use Rattle.theory.specs.Meanings.{WeightMeaning, WeightLaws}
 use Rattle.theory.specs.Codes.{weigh}
 
@@ -33,20 +32,6 @@ most m laws a = ⊎_elim (λ lt. omega (arith, laws.bounded a lt, laws.few)) (λ
 -- a word weighs at most eight times its length
 pub word_most : (m : WeightMeaning) → WeightLaws m → (word : List ℕ) → weigh m word ≤ length word * 8
 word_most m laws word = sum_by_le m.of 8 word (All-from_get_or (λ a. m.of a ≤ 8) word 0 (λ i h. most m laws (get_or word i 0)))
-
--- two lists that agree below the order mean the same weight
-pub same_table : (q : ℕ) (vs ws : List ℕ) → ((a : ℕ) → a < q → get_or vs a 0 ≡ get_or ws a 0) → table_of q vs ≡ table_of q ws
-same_table q vs ws same =
-    ap (λ (of : ℕ → ℕ). record { order = q; top = 8; of = of })
-    (fun_ext (λ a. ⊎_elim
-    (λ lt. cond-true (ltb a q) (get_or vs a 0) 0 (lt-ltb a q lt) ∙ same a lt ∙ sym (cond-true (ltb a q) (get_or ws a 0) 0 (lt-ltb a q lt)))
-    (λ ge. cond-false (ltb a q) (get_or vs a 0) 0 (le-ltb a q ge) ∙ sym (cond-false (ltb a q) (get_or ws a 0) 0 (le-ltb a q ge)))
-    (cases_lt a q)))
-
--- a list one place on, after a 0
-pub shifted_same : (of ws : List ℕ) → get_or of 0 0 ≡ 0 → ((i : ℕ) → i < length ws → get_or of (i + 1) 0 ≡ get_or ws i 0) → (a : ℕ) → a < length ws + 1 → get_or of a 0 ≡ get_or (0 ∷ ws) a 0
-shifted_same of ws none rest zero h = none
-shifted_same of ws none rest (suc a) h = ap (λ (k : ℕ). get_or of k 0) (sym (add-one a)) ∙ rest a (omega arith)
 
 -- an order and a list without a fault
 pub record NoFault (q : ℕ) (ws : List ℕ) : Type 0 where

@@ -77,7 +77,3 @@ pub reduced : (p x y : ℕ) → is_prime p ≡ true → x < p → y < p → (quo
 reduced p x y e hx hy =
     let parts = and_parts (nat_le (quotient p (x * y) * p) (x * y)) _ (pairs_at p (divides_well p) (all_well p e) x y hx hy) in
     (leb-true _ _ parts.0, eqb-true _ _ parts.1)
-
--- the same at what the code holds
-pub product_reduced : (p r n d x y : ℕ) → is_prime p ≡ true → x < p → y < p → r ≡ 65536 / p + 1 → n ≡ x * y → d ≡ p → (n * r / 65536 * d ≤ n) × (n - n * r / 65536 * d ≡ (x * y) % p)
-product_reduced p r n d x y e below-x below-y hr hn hd = rw (hr, hn, hd) (reduced p x y e below-x below-y)

@@ -17,9 +17,6 @@ pub record PartlyExchanged (n : ℕ) (before : List ℕ) (i j c : ℕ) (after : 
   pub done : (m d : ℕ) → d < n → d < c → get_or after (m * n + d) 0 ≡ get_or before (partner i j m * n + d) 0
   pub rest : (m d : ℕ) → d < n → c ≤ d → get_or after (m * n + d) 0 ≡ get_or before (m * n + d) 0
 
-pub exchanged_none : (n : ℕ) (codes : List ℕ) (i j : ℕ) → PartlyExchanged n codes i j 0 codes
-exchanged_none n codes i j = record { same = refl; done = λ m d h l. absurd (omega arith); rest = λ m d h l. refl }
-
 module _ (n : ℕ) (before : List ℕ) (i j : ℕ) (hi : HasRow n before i) (hj : HasRow n before j) where
   module _ (c : ℕ) (h : c < n) (old new : List ℕ) (was : PartlyExchanged n before i j c old) (swap : new ≡ exchanged old (i * n + c) (j * n + c)) where
     swapped : Swapped (λ p. get_or old p 0) (λ p. get_or new p 0) (i * n + c) (j * n + c)

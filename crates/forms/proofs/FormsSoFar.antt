@@ -14,7 +14,7 @@ use Rattle.forms.specs.FormRecords.{record_of}
 use Rattle.forms.specs.declared.form.Form.{Form}
 use Rattle.forms.proofs.Marks.{MarkedToo}
 use Rattle.forms.proofs.UsedColumns.{open_used, marks_none, marks_more}
-use Rattle.forms.proofs.FormSeries.{forms-none, forms-more, forms-ended, forms_all}
+use Rattle.forms.proofs.FormSeries.{forms-none, forms-more, forms-ended}
 
 -- The first m forms are written over those places, and the columns that they use are marked.
 pub record SoFar (f : FieldMeaning) (n : ℕ) (rows : List (List ℕ)) (before : List Form) (m : ℕ) (marks : List Bool) (after : List Form) : Type 0 where
@@ -72,9 +72,3 @@ module _ {f : FieldMeaning} {n : ℕ} {rows : List (List ℕ)} {before : List Fo
   -- No column is open.
   pub so_far_ended : m < 8 → false ≡ has_open n rows marks → Written m (forms f n rows)
   so_far_ended h none = so_far_end (forms-ended f n rows t.made t.used (8 - (m + 1)) (series-left h) (sym (none ∙ open_used n marks t.used t.agree rows)))
-
-  -- There is room for no more.
-  pub so_far_all : m ≡ 8 → Written 8 (forms f n rows)
-  so_far_all e =
-      let none : 8 - m ≡ 0 = omega arith in
-      subst (λ number. Written number (forms f n rows)) e (so_far_end (forms_all f n rows t.made t.used (t.series ∙ ap (λ left. t.made ++ forms_from f n rows left t.used) none)))
