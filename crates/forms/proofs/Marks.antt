@@ -136,11 +136,5 @@ abbrev pub open_at : List (List ℕ) → List Bool → ℕ → Bool
 open_at rows marks c = not (marked marks c) && not (is_zero (column rows c))
 
 module _ (rows : List (List ℕ)) (marks : List Bool) where
-  pub open_more : (c : ℕ) → has_open c rows marks ≡ false → open_at rows marks c ≡ false → has_open (c + 1) rows marks ≡ false
-  open_more c h fails =
-      ap (any (open_at rows marks)) (counting_next c)
-      ∙ any_append (open_at rows marks) (range_with_len 0 c) (c ∷ [])
-      ∙ or_from (has_open c rows marks) (cond (open_at rows marks c) true false) h (cond-false (open_at rows marks c) true false fails)
-
   pub open_found : (n c : ℕ) → c < n → open_at rows marks c ≡ true → has_open n rows marks ≡ true
   open_found n c h passes = any-in (open_at rows marks) c (range_with_len 0 n) (in_counting c 0 n (omega arith) (omega arith)) passes
