@@ -13,7 +13,7 @@ const ALL_ROWS: [usize; 32] = [
     16, 17, 18, 19, 20, 21, 22, 23, 24, 25, 26, 27, 28, 29, 30, 31,
 ];
 
-// A choice of t rows out of k: the first t of its places, in rising order. It stands somewhere in R(k, t).
+// A choice of t rows out of k: the first t of its places, in rising order. It stands somewhere in R(k, t). The array is as long as the largest choice needs: memory is fixed.
 #[derive(Clone, Copy)]
 pub struct Choice {
     rows: [usize; 32],
@@ -66,7 +66,7 @@ impl Choice {
         &self.rows[..self.t]
     }
 
-    // The step to the next choice; false, and nothing changes, at the last.
+    // The step to the next choice; false, and nothing changes, at the last. To stand at the last is no error, so the answer is a bool.
     pub fn step(&mut self) -> bool
         ensures value { Steps self.old.k self.old.t result (chosen self.old) (chosen self.new) }
         ensures exchange { result ≡ true → OneExchanged (chosen self.old) (chosen self.new) }

@@ -7,7 +7,7 @@ ghost use Rattle.choices.specs.Coefficients.{codes_of, FirstListOr, AllLists};
 use crate::turns::step_codes;
 use std::marker::Model;
 
-// The coefficients of t rows over a field of order q: the first t of its codes, that of the lowest row first. They stand somewhere among all such lists.
+// The coefficients of t rows over a field of order q: the first t of its codes, that of the lowest row first. They stand somewhere among all such lists. The array is as long as the longest list needs: memory is fixed.
 #[derive(Clone, Copy)]
 pub struct Coefficients {
     codes: [u8; 32],
@@ -54,7 +54,7 @@ impl Coefficients {
         &self.codes[..self.t]
     }
 
-    // The step to the next coefficients; false, and nothing changes, at the last.
+    // The step to the next coefficients; false, and nothing changes, at the last. To stand at the last is no error, so the answer is a bool.
     pub fn step(&mut self) -> bool
         ensures value { Steps (coefficient_lists self.old.q self.old.t) result (codes_of self.old) (codes_of self.new) }
         ensures same { (self.new.q ≡ self.old.q) × (self.new.t ≡ self.old.t) }

@@ -123,7 +123,7 @@ impl VisitCounter {
         self.size - self.place
     }
 
-    // The step to the next visit; false, and nothing changes, at the last.
+    // The step to the next visit; false, and nothing changes, at the last. To stand at the last is no error, so the answer is a bool.
     pub fn step(&mut self) -> bool
         ensures value { result ≡ nat_lt (self.old.place + 1) (level_size self.old.choice.k self.old.choice.t self.old.coefficients.q) }
         ensures after { CounterAt self.old.choice.k self.old.choice.t self.old.coefficients.q (self.old.place + (if result then 1 else 0)) self.new }

@@ -8,7 +8,7 @@ use std::time::Instant;
 // How often the row is added.
 const TURNS: u32 = 1_000_000;
 
-// Adds a row to a word, symbol by symbol.
+// Adds a row to a word, symbol by symbol: the sum alone, without the product of `add_multiple`.
 fn add_row<F: Field>(field: &F, row: &[u8; 64], word: &mut [u8; 64]) {
     for (a, b) in word.iter_mut().zip(row) {
         *a = field.sum(*a, *b);

@@ -3,7 +3,7 @@ ghost use Rattle.std.specs.Prelude.{◌≡◌, ℕ, ◌<◌, ◌≤◌, slice_in
 
 use crate::order::Order;
 
-// The weights of the codes below q, by the code.
+// The weights of the codes below q, by the code. The array is as long as the largest order needs: memory is fixed.
 #[derive(Clone, Copy)]
 pub struct TableWeight {
     q: Order,

@@ -41,7 +41,7 @@ pub fn add_multiple<F: Field>(
     if source.len() != target.len() {
         return Err(LengthsDiffer);
     }
-    // What a loop over `iter_mut` with `zip` writes is not known to the check, so the target is indexed.
+    // Not by `iter_mut().zip(..)`: what a loop over it writes is not known to the check.
     for (i, s) in source.iter().enumerate() {
         target[i] = field.sum(target[i], field.product(factor, *s));
     }

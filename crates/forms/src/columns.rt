@@ -34,6 +34,7 @@ fn put_columns(
     ensures value { result ≡ from + length (filter (λ c. (if wanted then marked marks.now c else not (marked marks.now c))) (range_with_len 0 n)) }
     ensures after { take result order.new ≡ take from order.old ++ filter (λ c. (if wanted then marked marks.now c else not (marked marks.now c))) (range_with_len 0 n) }
 {
+    // The places are written by number: what a loop over `iter_mut().zip(..)` writes is not known to the check.
     let mut end = from;
     for c in 0..n {
         if is_wanted(marks, c, wanted) {

@@ -1,4 +1,5 @@
 // Dependent rows and generator forms of a matrix, for any caller.
+// The codes come with k and n, and not as a matrix of known length, since k and n are refused before the length.
 ghost use Rattle.std.specs.Prelude.{◌≡◌, ◌++◌, map, length, drop, is_some, if◌then◌else◌, OnOk};
 ghost use Rattle.theory.specs.Forms.{form as form_told, forms as forms_told};
 ghost use Rattle.forms.specs.Matrices.{rows_of};

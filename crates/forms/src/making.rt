@@ -54,6 +54,7 @@ impl<'a, F: Field> GeneratorMatrix<'a, F> {
     {
         let matrix = self.rows.matrix;
         let mut marks = [false; 64];
+        // Not by `iter_mut().enumerate()`: what a loop over it writes is not known to the check.
         for j in 0..8 {
             if !has_open_column(&matrix, &marks) {
                 return j;

@@ -6,6 +6,7 @@ ghost use Rattle.lines.specs.LineWeights.{weighed, Weighs, WeighsLine};
 use fields::{Field, SymbolWeight, word_weight};
 
 // The weights of the q - 1 words of a line: the first `count` of them, in the order of the factors 1 to q - 1; and the least.
+// The array is as long as the largest field needs: memory is fixed, and the record is `Copy`.
 #[derive(Clone, Copy)]
 pub struct LineWeights {
     pub weights: [u32; 15],

@@ -60,6 +60,7 @@ fn put_all(items: &[TrailRecord], buffer: &mut [u8])
     requires { (length items.now ≤ 4096) × (6 * length items.now ≤ length buffer.old) }
     ensures after { buffer.new ≡ trail items.now ++ drop (6 * length items.now) buffer.old }
 {
+    // Not by `chunks_exact_mut`: what a loop over it writes is not known to the check.
     for (i, item) in items.iter().enumerate() {
         let bytes = <[u8; RECORD_BYTES]>::from(*item);
         buffer[RECORD_BYTES * i..RECORD_BYTES * (i + 1)].copy_from_slice(&bytes);

@@ -21,6 +21,7 @@ fn main(rt: HostRuntime) -> anyhow::Result<()> {
         .read_to_end(&mut text)?;
     let mut codes = [0; MOST_CODES];
     let mut reader = EntryReader::new(&text);
+    // A `loop` would count the entries by hand, and need a measure.
     for number in 1..TURNS {
         match reader.next_entry(&mut codes) {
             Ok(Some(header)) => {

@@ -29,6 +29,7 @@ fn read_rows(
     ensures after { OnOk result ((left parts.new ≡ drop header.k (left parts.old)) × (parts.new.passed ≡ parts.old.passed + header.k) × (parts.new.due ≡ rows_due header 0)) }
     ensures text { text_of parts.new ≡ text_of parts.old }
 {
+    // Not by `chunks_exact_mut`: what a loop over it writes is not known to the check.
     for row in 0..header.k {
         let symbols = parts.next_row(header, header.k - 1 - row)?;
         let from = row * header.n;

@@ -23,7 +23,7 @@ impl<'a> MatrixMut<'a> {
         self.clear_rows(field, pivot, column);
     }
 
-    // Takes a column, if it is independent of the `done` columns taken before; false, and nothing changes, if it is not.
+    // Takes a column, if it is independent of the `done` columns taken before; false, and nothing changes, if it is not, which is no error.
     pub(crate) fn take_column<F: Field>(&mut self, field: &F, done: usize, column: usize) -> bool
         requires { (self.old.n ≤ 64) × (column < self.old.n) × (done < self.old.k) }
         ensures value { Takes (F.Field.meaning field.now) (F.Field.negation field.now) (F.Field.inversion field.now) self.old.k self.old.n done column result self.old.codes.now self.new.codes.now }

@@ -26,6 +26,7 @@ impl<'a> MatrixMut<'a> {
         ensures same { SameShape self.old self.new }
     {
         let n = self.n;
+        // Not by `split_at_mut` and `swap_with_slice`: what they leave of a field of `self` is not known to the check.
         for c in 0..n {
             self.codes.swap(i * n + c, j * n + c);
         }
@@ -65,6 +66,7 @@ impl<'a> MatrixMut<'a> {
         let source = &mut held[..n];
         source.copy_from_slice(self.view().row(pivot));
         let inverse = field.inverse(source[column]);
+        // Not by `chunks_exact_mut`: what a loop over it writes is not known to the check.
         for i in 0..self.k {
             if i != pivot {
                 let start = i * n;
