@@ -6,9 +6,6 @@ use fields::{Field, Gf4, Hamming, Lee, PrimeField, SymbolWeight};
 use std::io;
 use std::io::Read;
 
-// More entries than a text can hold.
-const TURNS: u32 = 60_001;
-
 fn main(rt: HostRuntime) -> anyhow::Result<()> {
     let mut text = Vec::new(rt.alloc());
     // One byte past the limit tells that there are too many.
@@ -18,8 +15,8 @@ fn main(rt: HostRuntime) -> anyhow::Result<()> {
         .read_to_end(&mut text)?;
     let mut codes = [0; MOST_CODES];
     let mut reader = EntryReader::new(&text);
-    // A `loop` would count the entries by hand, and need a measure.
-    for number in 1..TURNS {
+    // A text has fewer entries than bytes. A `loop` would count them by hand, and need a measure.
+    for number in 1..=MOST_BYTES {
         match reader.next_entry(&mut codes) {
             Ok(Some(header)) => with_field(&rt, number, header)?,
             Ok(None) => break,
@@ -30,7 +27,7 @@ fn main(rt: HostRuntime) -> anyhow::Result<()> {
 }
 
 // Takes the field that an entry names.
-fn with_field(rt: &HostRuntime, number: u32, header: Header) -> anyhow::Result<()> {
+fn with_field(rt: &HostRuntime, number: usize, header: Header) -> anyhow::Result<()> {
     match header.field {
         FieldName::Gf4 => with_weight(rt, number, header, &Gf4),
         prime => with_weight(rt, number, header, &PrimeField::new(prime.order())?),
@@ -40,7 +37,7 @@ fn with_field(rt: &HostRuntime, number: u32, header: Header) -> anyhow::Result<(
 // Takes the symbol weight that an entry names, of the field's order.
 fn with_weight<F: Field>(
     rt: &HostRuntime,
-    number: u32,
+    number: usize,
     header: Header,
     field: &F,
 ) -> anyhow::Result<()> {
@@ -55,7 +52,7 @@ fn with_weight<F: Field>(
 // The line of an entry, with the order of the field taken and the word of the weight.
 fn print_entry<F: Field, W: SymbolWeight>(
     rt: &HostRuntime,
-    number: u32,
+    number: usize,
     header: Header,
     field: &F,
     weight: &W,

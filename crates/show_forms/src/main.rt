@@ -8,9 +8,6 @@ use forms::{Form, make_forms};
 use std::io;
 use std::io::Read;
 
-// More entries than a text can hold.
-const TURNS: u32 = 60_001;
-
 // Prints the forms of each entry, with an empty line between two entries.
 fn main(rt: HostRuntime) -> anyhow::Result<()> {
     let mut text = Vec::new(rt.alloc());
@@ -21,8 +18,8 @@ fn main(rt: HostRuntime) -> anyhow::Result<()> {
         .read_to_end(&mut text)?;
     let mut codes = [0; MOST_CODES];
     let mut reader = EntryReader::new(&text);
-    // A `loop` would count the entries by hand, and need a measure.
-    for number in 1..TURNS {
+    // A text has fewer entries than bytes. A `loop` would count them by hand, and need a measure.
+    for number in 1..=MOST_BYTES {
         match reader.next_entry(&mut codes) {
             Ok(Some(header)) => {
                 if number > 1 {
