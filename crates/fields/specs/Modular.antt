@@ -1,7 +1,7 @@
 -- The prime fields keep the laws, and their arithmetic fits bytes.
 use Rattle.std.specs.Prelude.{◌≡◌, ℕ, ◌+◌, ◌-◌, ◌*◌, ◌/◌, ◌%◌, ◌^◌, ◌<◌, ◌≤◌, Bool, true, cond, ◌&&◌, ◌==◌, nat_le, nat_lt, refl}
-use Rattle.std.proofs.Common.{sym, ◌∙◌, ap, subst, ⊎_elim, add-mul, mul_assoc, arith}
-use Rattle.std.proofs.Math.Nat.{mod-add-div, add-mul-mod_self_left}
+use Rattle.std.proofs.Common.{sym, ◌∙◌, ap, subst, ⊎_elim, add-mul, mul_assoc, mod-eq_of_lt, arith}
+use Rattle.std.proofs.Math.Nat.{mod-add-div, add-mul-mod_self_left, add-mod_right}
 use Rattle.std.proofs.lemmas.Bool.{and_parts, leb-true, or_cases, eqb-true, cases_lt, cond-true, cond-false, lt-ltb, le-ltb}
 use Rattle.theory.specs.Meanings.{FieldLaws, read_below}
 use Rattle.theory.specs.Usual.{prime}
@@ -50,6 +50,12 @@ prime_range p e =
     ⊎_elim (λ h. let is = eqb-true p 11 h in (omega arith, omega arith)) (λ h. let is = eqb-true p 13 h in (omega arith, omega arith))
     (or_cases (p == 11) _ e11)) (or_cases (p == 7) _ e7)) (or_cases (p == 5) _ e5)) (or_cases (p == 3) _ e3)) (or_cases (p == 2) _ e)
 
+-- a sum of two codes, folded back by one subtraction
+pub fold_back : (s p : ℕ) → p ≤ s → s < p + p → s - p ≡ s % p
+fold_back s p low high =
+    let back : s - p + p ≡ s = omega arith in
+    sym (ap (λ (x : ℕ). x % p) (sym back) ∙ add-mod_right (s - p) p ∙ mod-eq_of_lt (omega arith))
+
 -- (a % m) * b and a * b leave the same remainder
 pub mod_product : (a b m : ℕ) → (a % m * b) % m ≡ (a * b) % m
 mod_product a b m =
@@ -77,3 +83,7 @@ pub reduced : (p x y : ℕ) → is_prime p ≡ true → x < p → y < p → (quo
 reduced p x y e hx hy =
     let parts = and_parts (nat_le (quotient p (x * y) * p) (x * y)) _ (pairs_at p (divides_well p) (all_well p e) x y hx hy) in
     (leb-true _ _ parts.0, eqb-true _ _ parts.1)
+
+-- the same at what the code holds
+pub product_reduced : (p r n d x y : ℕ) → is_prime p ≡ true → x < p → y < p → r ≡ 65536 / p + 1 → n ≡ x * y → d ≡ p → (n * r / 65536 * d ≤ n) × (n - n * r / 65536 * d ≡ (x * y) % p)
+product_reduced p r n d x y e below-x below-y hr hn hd = rw (hr, hn, hd) (reduced p x y e below-x below-y)

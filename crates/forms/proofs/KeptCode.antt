@@ -53,8 +53,12 @@ module _ {f : FieldMeaning} {negative inverse : ℕ → ℕ} (laws : FieldLaws f
     abbrev rows : List (List ℕ)
     rows = rows_of k n before
 
-    pub exchange_keeps : (i j : ℕ) (after : List ℕ) → length before ≡ k * n → i < k → j < k → Exchanged n before i j after → KeepsCode f n rows (rows_of k n after)
-    exchange_keeps i j after e hi hj X =
+    pub exchange_keeps : (i j : ℕ) → tests.both_rows k n before i j ≡ true → (after : List ℕ) → Exchanged n before i j after → KeepsCode f n rows (rows_of k n after)
+    exchange_keeps i j there after X =
+        let told = both_told k n before i j there in
+        let e = told.0 in
+        let hi = told.1 in
+        let hj = told.2 in
         let a : i < length rows = omega (arith, length-rows k n before) in
         let b : j < length rows = omega (arith, length-rows k n before) in
         keeps_code (λ R. subst (λ gens. Rows f.order n (length gens) gens × SameCode f n rows gens) (sym (exchanged_rows k n before i j after e hi hj X)) (rows_exchanged laws R i j a b, same_code_exchange laws R i j a b))
@@ -63,7 +67,16 @@ module _ {f : FieldMeaning} {negative inverse : ℕ → ℕ} (laws : FieldLaws f
     row_word : Rows f.order n (length rows) rows → (i : ℕ) → i < k → Word f.order n (row_at n before i)
     row_word R i h = subst (Word f.order n) (get_or-rows k n before i h) (listed-get_or [] R i (omega (arith, length-rows k n before)))
 
-    module _ (p c : ℕ) (e : length before ≡ k * n) (inside : p < k) (some : 0 < symbol_at n before p c) where
+    module _ (p c : ℕ) (pivot : tests.has_pivot k n before p c ≡ true) where
+      e : length before ≡ k * n
+      e = (pivot-told k n before p c pivot).0
+
+      inside : p < k
+      inside = (pivot-told k n before p c pivot).1
+
+      some : 0 < symbol_at n before p c
+      some = (pivot-told k n before p c pivot).3
+
       -- A row that is scaled among the codes is scaled in the list.
       scaled_rows : (factor : ℕ) (after : List ℕ) → Scaled f n before p factor after → rows_of k n after ≡ set rows p (times f factor (get_or rows p []))
       scaled_rows factor after S =
@@ -74,14 +87,14 @@ module _ {f : FieldMeaning} {negative inverse : ℕ → ℕ} (laws : FieldLaws f
           get_or-rows k n after m h
           ∙ S.1 m (has_row n k before m e h)
           ∙ elim (cases_eq m p) [
-            | inl s ↦ cond-true _ _ _ (eq-eqb m p s) ∙ ap (times f factor) (sym (get_or-rows k n before p inside)) ∙ sym (ap (λ x. get_or (set rows p r) x []) s ∙ get_or-set_same rows p r [] (omega (arith, long)))
+            | inl s ↦ cond-true _ _ _ (eq-eqb m p s) ∙ ap (times f factor) (sym (get_or-rows k n before p inside)) ∙ sym (ap (λ x. get_or (set rows p r) x []) s ∙ get_or-set_same rows p r [] (omega (arith, long, inside)))
             | inr ne ↦ cond-false _ _ _ (ne_eqb m p ne) ∙ sym (get_or-set_other rows p m r [] ne ∙ get_or-rows k n before m h)
           ])
 
       pub scale_keeps : (after : List ℕ) → Scaled f n before p (inverse (symbol_at n before p c)) after → KeepsCode f n rows (rows_of k n after)
       scale_keeps after S =
           let x : ℕ = symbol_at n before p c in
-          let there : p < length rows = omega (arith, length-rows k n before) in
+          let there : p < length rows = omega (arith, length-rows k n before, inside) in
           keeps_code (λ R.
           let low : x < f.order = symbol_below laws (row_word R p inside) c in
           let factor_low : inverse x < f.order = laws.inverse_below x low in
@@ -100,7 +113,7 @@ module _ {f : FieldMeaning} {negative inverse : ℕ → ℕ} (laws : FieldLaws f
             let long : length rows ≡ k = length-rows k n before in
             record {
               as_many = length-rows k n after ∙ sym long;
-              inside = omega (arith, long);
+              inside = omega (arith, long, inside);
               low = λ i l. clearing_low laws (row_at n before p) c (row_at n before i);
               pivot = get_or-rows k n after p inside ∙ C.1 p inside ∙ cond-true _ _ _ (eq-eqb p p refl) ∙ sym (get_or-rows k n before p inside);
               others = λ i l ne.

@@ -7,8 +7,8 @@ use Rattle.std.proofs.lemmas.List.Elements.{filter-append}
 use Rattle.std.proofs.ByRecursion.{All-append, all_kept_by, All-map}
 use Rattle.std.proofs.lemmas.List.Filters.{length-filter_both}
 use Rattle.std.proofs.lemmas.List.{take_more, take_more_set, length_push, get_or-map}
-use Rattle.std.proofs.lemmas.Bool.{cases_Bool, cases_eq, cond-true, cond-false, eq-eqb, ne_eqb, not_from_true, not_from_false, or_from, or_right}
-use Rattle.theory.specs.Codes.{any, is_zero}
+use Rattle.std.proofs.lemmas.Bool.{cases_Bool, cases_eq, cond-true, cond-false, eq-eqb, ne_eqb, not_from_true, not_from_false, or_right}
+use Rattle.theory.specs.Codes.{is_zero}
 use Rattle.theory.specs.Forms.{among, column}
 use Rattle.theory.proofs.Lists.Countings.{counting_push, all_counting}
 use Rattle.theory.proofs.Lists.Members.{in_counting}

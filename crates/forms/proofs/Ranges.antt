@@ -1,8 +1,9 @@
 -- What `find` tells of a range of numbers, and `position` of a list.
-use Rattle.std.proofs.Common.{◌≡◌, ℕ, zero, suc, ◌+◌, ◌<◌, ◌≤◌, Bool, true, false, List, length, get_or, position, Option, Some, None, sym, refl, ◌∙◌, subst, ⊎_elim, arith}
+use Rattle.std.proofs.Common.{◌≡◌, ℕ, zero, suc, ◌+◌, ◌<◌, ◌≤◌, Bool, true, false, not, eqb, List, length, get_or, position, Option, Some, None, sym, refl, ◌∙◌, subst, ⊎_elim, arith}
 use Rattle.std.specs.Option.{MatchOption, option_map}
 use Rattle.std.specs.List.{find, range_with_len, position_or_len}
 use Rattle.std.proofs.lemmas.Bool.{cases_Bool, cases_eq, cases_lt, cond-true, cond-false, lt-ltb}
+use Rattle.std.proofs.lemmas.Bool.Decides.{nat_tests}
 use Rattle.std.proofs.lemmas.List.Sums.{fails_before_first}
 
 module _ (p : ℕ → Bool) where
@@ -44,3 +45,10 @@ fails-all p xs d e k l =
     (λ lt. let bad : None ≡ Some (position_or_len p xs) = e ∙ cond-true _ _ _ (lt-ltb (position_or_len p xs) (length xs) lt) in let z : ◌≡◌ {A = ℕ} 0 1 = cc in absurd (omega arith))
     (λ ge. fails_before_first p xs k d (omega arith))
     (cases_lt (position_or_len p xs) (length xs))
+
+-- What the test for 0 tells.
+pub zero_where : (x : ℕ) → not (eqb x 0) ≡ false → x ≡ 0
+zero_where x e = grind (arith, nat_tests)
+
+pub positive_where : (x : ℕ) → not (eqb x 0) ≡ true → 0 < x
+positive_where x e = grind (arith, nat_tests)

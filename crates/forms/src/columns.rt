@@ -3,8 +3,8 @@ ghost use Rattle.std.specs.Prelude.{◌≡◌, ℕ, ◌+◌, ◌<◌, ◌≤◌,
 ghost use Rattle.std.specs.List.{range_with_len, AllByRecursion};
 ghost use Rattle.theory.specs.Codes.{is_zero};
 ghost use Rattle.theory.specs.Forms.{among, column};
-ghost use Rattle.forms.specs.Matrices.{rows_of};
 ghost use Rattle.forms.specs.ColumnMarks.{marked, column_order, has_open};
+ghost use Rattle.forms.specs.Shapes.{rows_in};
 
 use crate::matrix::MatrixView;
 
@@ -80,14 +80,14 @@ pub(crate) fn mark(marks: &mut [bool; 64], positions: &[u8])
 // Whether a column is not marked and not zero.
 fn is_open(matrix: &MatrixView<'_>, marks: &[bool; 64], c: usize) -> bool
     requires { c < matrix.now.n }
-    ensures value { result ≡ (not (marked marks.now c) && not (is_zero (column (rows_of matrix.now.k matrix.now.n matrix.now.codes.now) c))) }
+    ensures value { result ≡ (not (marked marks.now c) && not (is_zero (column (rows_in matrix.now) c))) }
 {
     !is_marked(marks, c) && matrix.pivot_row(0, c).is_some()
 }
 
 // Whether some column that is not marked is not zero.
 pub(crate) fn has_open_column(matrix: &MatrixView<'_>, marks: &[bool; 64]) -> bool
-    ensures value { result ≡ has_open matrix.now.n (rows_of matrix.now.k matrix.now.n matrix.now.codes.now) marks.now }
+    ensures value { result ≡ has_open matrix.now.n (rows_in matrix.now) marks.now }
 {
     (0..matrix.n).any(|c| is_open(matrix, marks, c))
 }

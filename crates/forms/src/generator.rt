@@ -1,7 +1,7 @@
 // Matrices that have passed tests: of codes of a field, and with independent rows.
 ghost use Rattle.std.specs.Prelude.{◌≤◌};
 ghost use Rattle.theory.specs.Facts.{Matrix, Independent};
-ghost use Rattle.forms.specs.Matrices.{rows_of};
+ghost use Rattle.forms.specs.Shapes.{rows_in};
 
 use crate::matrix::MatrixView;
 use fields::Field;
@@ -13,12 +13,12 @@ pub(crate) struct CodeMatrix<'a, F: Field> {
     pub(crate) matrix: MatrixView<'a>,
     ghost narrow: { matrix.n ≤ 64 },
     ghost few: { matrix.k ≤ 32 },
-    ghost coded: { Matrix (F.Field.meaning field.now) matrix.n (rows_of matrix.k matrix.n matrix.codes.now) },
+    ghost coded: { Matrix (F.Field.meaning field.now) matrix.n (rows_in matrix) },
 }
 
 // A generator matrix: such a matrix with independent rows.
 #[derive(Drop)]
 pub(crate) struct GeneratorMatrix<'a, F: Field> {
     pub(crate) rows: CodeMatrix<'a, F>,
-    ghost independent: { Independent (F.Field.meaning rows.field.now) rows.matrix.n (rows_of rows.matrix.k rows.matrix.n rows.matrix.codes.now) },
+    ghost independent: { Independent (F.Field.meaning rows.field.now) rows.matrix.n (rows_in rows.matrix) },
 }

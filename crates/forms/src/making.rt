@@ -7,6 +7,7 @@ ghost use Rattle.forms.specs.Elimination.{Eliminated};
 ghost use Rattle.forms.specs.ColumnMarks.{MarksUsed, marked_columns};
 ghost use Rattle.forms.specs.Systematic.{FormsAreSystematic};
 ghost use Rattle.forms.specs.FormRecords.{record_of};
+ghost use Rattle.forms.specs.Shapes.{rows_in};
 
 use crate::columns::{count_unmarked, has_open_column, mark, order_columns};
 use crate::form::Form;
@@ -19,9 +20,9 @@ impl<'a, F: Field> GeneratorMatrix<'a, F> {
     fn eliminate(&self, order: &[u8], rows: &mut [u8], positions: &mut [u8; 32]) -> usize
         requires columns { AllByRecursion (λ c. c < self.now.rows.matrix.n) order.now }
         requires room { length rows.old ≡ self.now.rows.matrix.k * self.now.rows.matrix.n }
-        ensures taken { (result ≤ self.now.rows.matrix.k) × (take result positions.new ≡ pick (F.Field.meaning self.now.rows.field.now) (rows_of self.now.rows.matrix.k self.now.rows.matrix.n self.now.rows.matrix.codes.now) [] order.now) }
+        ensures taken { (result ≤ self.now.rows.matrix.k) × (take result positions.new ≡ pick (F.Field.meaning self.now.rows.field.now) (rows_in self.now.rows.matrix) [] order.now) }
         ensures rest { drop result positions.new ≡ drop result positions.old }
-        ensures rows { Eliminated (F.Field.meaning self.now.rows.field.now) self.now.rows.matrix.n (rows_of self.now.rows.matrix.k self.now.rows.matrix.n self.now.rows.matrix.codes.now) (take result positions.new) (rows_of self.now.rows.matrix.k self.now.rows.matrix.n rows.new) }
+        ensures rows { Eliminated (F.Field.meaning self.now.rows.field.now) self.now.rows.matrix.n (rows_in self.now.rows.matrix) (take result positions.new) (rows_of self.now.rows.matrix.k self.now.rows.matrix.n rows.new) }
     {
         let MatrixView { codes, k, n } = self.rows.matrix;
         rows.copy_from_slice(codes);
@@ -30,8 +31,8 @@ impl<'a, F: Field> GeneratorMatrix<'a, F> {
 
     // The form of the matrix, when the columns used are marked.
     pub(crate) fn form(&self, marks: &[bool; 64]) -> Form
-        ensures value { (used : List ℕ) → MarksUsed self.now.rows.matrix.n marks.now used → result ≡ record_of (form_told (F.Field.meaning self.now.rows.field.now) self.now.rows.matrix.n (rows_of self.now.rows.matrix.k self.now.rows.matrix.n self.now.rows.matrix.codes.now) used) }
-        ensures marked { result ≡ record_of (form_told (F.Field.meaning self.now.rows.field.now) self.now.rows.matrix.n (rows_of self.now.rows.matrix.k self.now.rows.matrix.n self.now.rows.matrix.codes.now) (marked_columns self.now.rows.matrix.n marks.now)) }
+        ensures value { (used : List ℕ) → MarksUsed self.now.rows.matrix.n marks.now used → result ≡ record_of (form_told (F.Field.meaning self.now.rows.field.now) self.now.rows.matrix.n (rows_in self.now.rows.matrix) used) }
+        ensures marked { result ≡ record_of (form_told (F.Field.meaning self.now.rows.field.now) self.now.rows.matrix.n (rows_in self.now.rows.matrix) (marked_columns self.now.rows.matrix.n marks.now)) }
     {
         let MatrixView { k, n, .. } = self.rows.matrix;
         let order = order_columns(marks, n);
@@ -48,9 +49,9 @@ impl<'a, F: Field> GeneratorMatrix<'a, F> {
 
     // All forms of the matrix, one after the other, into the places that the caller lends; their number.
     pub(crate) fn forms(&self, forms: &mut [Form; 8]) -> usize
-        ensures value { result ≡ length (forms_told (F.Field.meaning self.now.rows.field.now) self.now.rows.matrix.n (rows_of self.now.rows.matrix.k self.now.rows.matrix.n self.now.rows.matrix.codes.now)) }
-        ensures after { forms.new ≡ map record_of (forms_told (F.Field.meaning self.now.rows.field.now) self.now.rows.matrix.n (rows_of self.now.rows.matrix.k self.now.rows.matrix.n self.now.rows.matrix.codes.now)) ++ drop result forms.old }
-        ensures systematic { FormsAreSystematic (F.Field.meaning self.now.rows.field.now) self.now.rows.matrix.n (rows_of self.now.rows.matrix.k self.now.rows.matrix.n self.now.rows.matrix.codes.now) }
+        ensures value { result ≡ length (forms_told (F.Field.meaning self.now.rows.field.now) self.now.rows.matrix.n (rows_in self.now.rows.matrix)) }
+        ensures after { forms.new ≡ map record_of (forms_told (F.Field.meaning self.now.rows.field.now) self.now.rows.matrix.n (rows_in self.now.rows.matrix)) ++ drop result forms.old }
+        ensures systematic { FormsAreSystematic (F.Field.meaning self.now.rows.field.now) self.now.rows.matrix.n (rows_in self.now.rows.matrix) }
     {
         let matrix = self.rows.matrix;
         let mut marks = [false; 64];

@@ -6,7 +6,7 @@ ghost use Rattle.theory.specs.Facts.{Matrix};
 ghost use Rattle.forms.specs.Matrices.{rows_of};
 ghost use Rattle.forms.specs.RowSteps.{Pivoted, Takes};
 ghost use Rattle.forms.specs.Elimination.{Eliminated};
-ghost use Rattle.forms.specs.Shapes.{SameShape};
+ghost use Rattle.forms.specs.Shapes.{held_rows, SameShape};
 
 use super::MatrixMut;
 use fields::Field;
@@ -46,10 +46,10 @@ impl<'a> MatrixMut<'a> {
     ) -> usize
         requires shape { (self.old.n ≤ 64) × (self.old.k ≤ 32) }
         requires columns { AllByRecursion (λ c. c < self.old.n) order.now }
-        requires matrix { Matrix (F.Field.meaning field.now) self.old.n (rows_of self.old.k self.old.n self.old.codes.now) }
-        ensures taken { (result ≤ self.old.k) × (take result positions.new ≡ pick (F.Field.meaning field.now) (rows_of self.old.k self.old.n self.old.codes.now) [] order.now) }
+        requires matrix { Matrix (F.Field.meaning field.now) self.old.n (held_rows self.old) }
+        ensures taken { (result ≤ self.old.k) × (take result positions.new ≡ pick (F.Field.meaning field.now) (held_rows self.old) [] order.now) }
         ensures rest { drop result positions.new ≡ drop result positions.old }
-        ensures rows { Eliminated (F.Field.meaning field.now) self.old.n (rows_of self.old.k self.old.n self.old.codes.now) (take result positions.new) (rows_of self.old.k self.old.n self.new.codes.now) }
+        ensures rows { Eliminated (F.Field.meaning field.now) self.old.n (held_rows self.old) (take result positions.new) (rows_of self.old.k self.old.n self.new.codes.now) }
         ensures same { SameShape self.old self.new }
     {
         let mut done = 0;

@@ -1,9 +1,8 @@
 // Which row of a matrix is the first that is a sum of multiples of the rows before it.
 ghost use Rattle.std.specs.Prelude.{◌≤◌};
 ghost use Rattle.theory.specs.Facts.{Matrix};
-ghost use Rattle.forms.specs.Matrices.{rows_of};
 ghost use Rattle.forms.specs.Elimination.{FirstDependentOr};
-ghost use Rattle.forms.specs.Shapes.{SameShape};
+ghost use Rattle.forms.specs.Shapes.{held_rows, SameShape};
 
 use super::MatrixMut;
 use fields::Field;
@@ -12,8 +11,8 @@ impl<'a> MatrixMut<'a> {
     // The first dependent row, or that there is none. The matrix is used up by an elimination.
     pub(crate) fn first_dependent<F: Field>(&mut self, field: &F) -> Option<usize>
         requires narrow { self.old.n ≤ 64 }
-        requires matrix { Matrix (F.Field.meaning field.now) self.old.n (rows_of self.old.k self.old.n self.old.codes.now) }
-        ensures value { FirstDependentOr (F.Field.meaning field.now) self.old.n (rows_of self.old.k self.old.n self.old.codes.now) result }
+        requires matrix { Matrix (F.Field.meaning field.now) self.old.n (held_rows self.old) }
+        ensures value { FirstDependentOr (F.Field.meaning field.now) self.old.n (held_rows self.old) result }
         ensures same { SameShape self.old self.new }
     {
         for i in 0..self.k {

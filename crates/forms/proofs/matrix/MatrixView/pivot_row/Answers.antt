@@ -1,30 +1,23 @@
 -- The row found is the first in the range.
-use Rattle.std.proofs.Common.{◌≡◌, ℕ, ◌-◌, ◌<◌, true, false, eqb, not, refl, List, Option, Some, None, rules, arith}
-use Rattle.std.proofs.lemmas.Bool.Decides.{nat_tests}
+use Rattle.std.proofs.Common.{◌≡◌, ℕ, ◌-◌, eqb, not, refl, List, Option, Some, None, rules, arith}
 use Rattle.std.specs.List.{find, range_with_len}
 use Rattle.std.specs.Option.{option_map, MatchOption}
 use Rattle.std.proofs.lemmas.Iterator.{YieldsList-from_range}
 use Rattle.std.proofs.lemmas.Iterator.Search.{find_from_yields_List}
 use Rattle.forms.specs.Matrices.{symbol_at, ZeroIn, FirstPivot}
-use Rattle.forms.proofs.Ranges.{NonePasses, FirstPasses, found_in_range}
+use Rattle.forms.proofs.Ranges.{NonePasses, FirstPasses, found_in_range, zero_where, positive_where}
 use Rattle.forms.proofs.matrix.MatrixView.pivot_row.Goals as goal
-
-is_zero : (x : ℕ) → not (eqb x 0) ≡ false → x ≡ 0
-is_zero x e = grind (arith, nat_tests)
-
-is_positive : (x : ℕ) → not (eqb x 0) ≡ true → 0 < x
-is_positive x e = grind (arith, nat_tests)
 
 -- The first number of a range that passes the test is the first pivot.
 first-pivot : (n : ℕ) (codes : List ℕ) (c from k : ℕ) (r : Option ℕ)
     → MatchOption r (NonePasses (λ i. not (eqb (symbol_at n codes i c) 0)) from (k - from)) (FirstPasses (λ i. not (eqb (symbol_at n codes i c) 0)) from (k - from))
     → MatchOption r (ZeroIn n codes c from k) (λ p. FirstPivot n codes c from k p)
-first-pivot n codes c from k None none = λ i low high. is_zero (symbol_at n codes i c) (none i low (omega arith))
+first-pivot n codes c from k None none = λ i low high. zero_where (symbol_at n codes i c) (none i low (omega arith))
 first-pivot n codes c from k (Some p) found = (
   found.0,
   omega (arith, found.0, found.1),
-  is_positive (symbol_at n codes p c) found.2,
-  λ i low high. is_zero (symbol_at n codes i c) (found.3 i low high),
+  positive_where (symbol_at n codes p c) found.2,
+  λ i low high. zero_where (symbol_at n codes i c) (found.3 i low high),
 )
 
 pub returns : goal.returns
