@@ -6,6 +6,7 @@ pub mod Pivoting
 pub mod RowTest
 pub mod Picking
 pub mod Ranges
+pub mod SameShapes
 pub mod RowLists
 pub mod Marks
 pub mod UsedColumns

@@ -8,6 +8,7 @@ use Rattle.theory.proofs.Lists.Zeros.{zero_symbol}
 use Rattle.theory.proofs.Algebra.Combinations.{Rows, rows_from}
 use Rattle.forms.specs.Matrices.{row_at, rows_of, symbol_at}
 use Rattle.forms.specs.RowSteps.{Pivoted}
+use Rattle.forms.proofs.SameShapes.{with_shape, same_shape-then}
 use Rattle.forms.proofs.RowTest.{Tested, tested_start, tested_tells, tested_step}
 use Rattle.forms.proofs.RowLists.{length-rows, get_or-rows, symbol_rows, pivoted_gained, pivoted_clear}
 use Rattle.forms.proofs.matrix.MatrixMut.first_dependent.Goals as goal
@@ -50,16 +51,15 @@ loop-i-preserved g c =
     let column = c.in-Some.column in
     let v = c.view.ensures.value in
     let s = c.loop-i.invariant.3 in
-    let p = c.pivot_at.ensures.same in
     let some : 0 < symbol_at m.n now i column = subst (λ x. 0 < x) (ap₂ (λ n l. symbol_at n l i column) (v.2 ∙ s.1) v.0) c.in-Some.ensures.value.1 in
     let pivoted : ℕ → ℕ → Type 0 = λ k n. Pivoted f (g.F.Field.negation field) (g.F.Field.inversion field) k n now i column c.pivot_at.new.self.codes.now in
-    let after : pivoted m.k m.n = subst (λ n. pivoted m.k n) s.1 (subst (λ k. pivoted k c.loop-i.self.n) s.0 c.pivot_at.ensures.after) in
+    let after : pivoted m.k m.n = with_shape m c.loop-i.self pivoted s c.pivot_at.ensures.after in
     let ps = c.loop-i.invariant.0 in
     let t = c.loop-i.invariant.1 in (
       ps ++ column ∷ [],
       tested_more laws m.k m.n codes R now i c.loop-i-test.true ps t column some c.pivot_at.new.self.codes.now after,
       below_more _ _ c.loop-i.invariant.2 (not-dependent laws m.k m.n codes R now i c.loop-i-test.true ps t column some),
-      (p.0 ∙ s.0, p.1 ∙ s.1, p.2 ∙ s.2),
+      same_shape-then m c.loop-i.self c.pivot_at.new.self s c.pivot_at.ensures.same,
     )
 
 pub returns-in_default : goal.returns-in_default

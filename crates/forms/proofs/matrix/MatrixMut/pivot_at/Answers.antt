@@ -1,10 +1,11 @@
 -- The pivot row is there, and the two steps together.
-use Rattle.std.proofs.Common.{◌≡◌, ℕ, ◌*◌, ◌<◌, List, length, sym, refl, ◌∙◌, ap₂, subst, ⊎_elim}
+use Rattle.std.proofs.Common.{◌≡◌, ℕ, ◌*◌, ◌<◌, List, length, sym, refl, ◌∙◌, ap₂, ⊎_elim}
 use Rattle.std.proofs.lemmas.Bool.{cases_eq, eq-eqb, ne_eqb, cond-true, cond-false}
 use Rattle.theory.specs.Meanings.{FieldMeaning}
 use Rattle.forms.specs.Matrices.{row_at, symbol_at}
 use Rattle.forms.specs.RowSteps.{Scaled, Cleared, Pivoted, unit_scaled, cleared_row}
 use Rattle.forms.proofs.Flat.{has_row}
+use Rattle.forms.proofs.SameShapes.{with_shape}
 use Rattle.forms.proofs.matrix.MatrixMut.pivot_at.Goals as goal
 
 -- A row by the inverse of its symbol in a column, and then the column cleared.
@@ -27,9 +28,8 @@ pub returns-clause-after : goal.returns-clause-after
 returns-clause-after g c =
     let field = c.args.field.now in
     let m = c.args.self.now in
-    let s = c.scale_to_one.ensures.same in
-    let middle = c.scale_to_one.new.self.codes.now in
+    let middle = c.scale_to_one.new.self in
     let after = c.clear_rows.new.self.codes.now in
-    let cleared : ℕ → ℕ → Type 0 = λ k n. Cleared (g.F.Field.meaning field) (g.F.Field.negation field) (g.F.Field.inversion field) k n middle c.args.pivot c.args.column after in
-    pivoted (g.F.Field.meaning field) (g.F.Field.negation field) (g.F.Field.inversion field) m.k m.n m.codes.now c.args.pivot c.args.column middle after m.whole c.requires.2 c.scale_to_one.ensures.after
-    (subst (λ n. cleared m.k n) s.1 (subst (λ k. cleared k c.scale_to_one.new.self.n) s.0 c.clear_rows.ensures.after))
+    let cleared : ℕ → ℕ → Type 0 = λ k n. Cleared (g.F.Field.meaning field) (g.F.Field.negation field) (g.F.Field.inversion field) k n middle.codes.now c.args.pivot c.args.column after in
+    pivoted (g.F.Field.meaning field) (g.F.Field.negation field) (g.F.Field.inversion field) m.k m.n m.codes.now c.args.pivot c.args.column middle.codes.now after m.whole c.requires.2 c.scale_to_one.ensures.after
+    (with_shape m middle cleared c.scale_to_one.ensures.same c.clear_rows.ensures.after)

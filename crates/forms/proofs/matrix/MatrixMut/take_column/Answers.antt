@@ -2,6 +2,7 @@
 use Rattle.std.proofs.Common.{◌≡◌, ℕ, List, subst}
 use Rattle.forms.specs.Matrices.{FirstPivot}
 use Rattle.forms.specs.RowSteps.{Pivoted}
+use Rattle.forms.proofs.SameShapes.{with_shape}
 use Rattle.forms.proofs.matrix.MatrixMut.take_column.Goals as goal
 
 -- A pivot of what is read is one of the matrix.
@@ -15,12 +16,11 @@ returns-clause-value g c =
     let column = c.args.column in
     let done = c.args.done in
     let v = c.view.ensures.value in
-    let s = c.exchange_rows.ensures.same in
-    let middle = c.exchange_rows.new.self.codes.now in
-    let pivoted : ℕ → ℕ → Type 0 = λ k n. Pivoted (g.F.Field.meaning field) (g.F.Field.negation field) (g.F.Field.inversion field) k n middle done column c.pivot_at.new.self.codes.now in (
+    let middle = c.exchange_rows.new.self in
+    let pivoted : ℕ → ℕ → Type 0 = λ k n. Pivoted (g.F.Field.meaning field) (g.F.Field.negation field) (g.F.Field.inversion field) k n middle.codes.now done column c.pivot_at.new.self.codes.now in (
       c.in-Some.row,
-      middle,
+      middle.codes.now,
       read_pivot m.n m.k m.codes.now column done c.in-Some.row c.view.result.n c.view.result.k c.view.result.codes.now v.0 v.1 v.2 c.in-Some.ensures.value,
       c.exchange_rows.ensures.after,
-      subst (λ n. pivoted m.k n) s.1 (subst (λ k. pivoted k c.exchange_rows.new.self.n) s.0 c.pivot_at.ensures.after),
+      with_shape m middle pivoted c.exchange_rows.ensures.same c.pivot_at.ensures.after,
     )

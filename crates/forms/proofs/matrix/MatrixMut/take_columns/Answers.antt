@@ -9,6 +9,7 @@ use Rattle.forms.specs.declared.matrix.MatrixMut.{MatrixMut}
 use Rattle.forms.specs.Shapes.{SameShape}
 use Rattle.forms.specs.Matrices.{rows_of, symbol_at}
 use Rattle.forms.specs.RowSteps.{Takes}
+use Rattle.forms.proofs.SameShapes.{with_shape, same_shape-then}
 use Rattle.forms.proofs.Flat.{has_row}
 use Rattle.forms.proofs.Picking.{Picking, picking_start, picking_passes, picking_stops, picking_takes, picking_ends}
 use Rattle.forms.proofs.RowLists.{length-rows, symbol_rows, exchanged_rows, pivoted_gained, pivoted_clear, eliminated}
@@ -72,13 +73,12 @@ loop-c-preserved g c =
     let turn : List ℕ → List ℕ → Type 0 = λ x qs. Picking f n rows order (rows_of k n x) qs rest in
     let asked : Bool → List ℕ → ℕ → ℕ → Type 0 = λ b after d x. Takes f negative inverse k n d x b now after in
     let shaped : (b : Bool) (after : List ℕ) (d x : ℕ) → Takes f negative inverse c.loop-c.self.k c.loop-c.self.n d x b now after → asked b after d x =
-    λ b after d x told. subst (λ j. Takes f negative inverse k j d x b now after) c.loop-c.invariant.4.1 (subst (λ j. Takes f negative inverse j c.loop-c.self.n d x b now after) c.loop-c.invariant.4.0 told) in
+    λ b after d x told. with_shape c.args.self.now c.loop-c.self (λ i j. Takes f negative inverse i j d x b now after) c.loop-c.invariant.4 told in
     let s = c.loop-c.invariant.4 in
     let kept : MatrixMut → Type 0 = SameShape c.args.self.now in
     elim c.if-done-self.branch [
       | then-done-self+then-take_column w ↦
           let after = w.take_column.new.self.codes.now in
-          let p = w.if-take_column.ensures.same in
           let T = subst₂ (asked true after) (sym count) w.from.ensures (shaped true after done w.from.result w.if-take_column.ensures.value) in
           let few : length ps < k = omega (arith, w.if-done-self.true) in
           let room : done < length positions = omega (arith, w.if-done-self.true, c.loop-c.invariant.1, c.requires.shape.1) in (
@@ -86,7 +86,7 @@ loop-c-preserved g c =
             c.if-done-self.array_long,
             ap₂ drop w.done-is w.positions-is ∙ written c.args.positions.now positions done column c.loop-c.invariant.2 ∙ ap (λ d. drop d c.args.positions.now) (sym w.done-is),
             subst₂ turn (ap (λ x. x.codes.now) (sym w.self-is)) (sym (ap₂ take w.done-is w.positions-is ∙ take_more_set positions done column room)) (taken laws k n codes R order now ps column rest after t long few T),
-            subst kept (sym w.self-is) (p.0 ∙ s.0, p.1 ∙ s.1, p.2 ∙ s.2),
+            subst kept (sym w.self-is) (same_shape-then c.args.self.now c.loop-c.self w.take_column.new.self s w.if-take_column.ensures.same),
           )
       | else-done-self w ↦ (
         omega (arith, w.done-is, c.loop-c.invariant.0),
@@ -99,7 +99,7 @@ loop-c-preserved g c =
           | else-done-self-via-else-done-self v ↦ subst (λ x. turn x.codes.now ps) (sym v.self-is) (picking_stops laws R t (omega (arith, length-rows k n codes, v.if-done-self.false)))
         ]),
         subst kept (sym w.self-is) (elim w.else-done-self.branch [
-          | else-done-self-via-then-done-self+else-take_column v ↦ let p = v.if-take_column.ensures.same in subst kept (sym v.self-is) (p.0 ∙ s.0, p.1 ∙ s.1, p.2 ∙ s.2)
+          | else-done-self-via-then-done-self+else-take_column v ↦ subst kept (sym v.self-is) (same_shape-then c.args.self.now c.loop-c.self v.take_column.new.self s v.if-take_column.ensures.same)
           | else-done-self-via-else-done-self v ↦ subst kept (sym v.self-is) s
         ]),
       )
