@@ -21,7 +21,7 @@ fn first_no_code(codes: &[u8], q: u8) -> Option<usize>
     first_from(codes, q)
 }
 
-// Tests all but the independence of the rows.
+// The matrix of these codes with all tested but the independence of its rows.
 pub(crate) fn check_matrix<'a, F: Field>(
     field: &'a F,
     codes: &'a [u8],
@@ -33,7 +33,7 @@ pub(crate) fn check_matrix<'a, F: Field>(
     ensures matrix { IfOk result (λ m. (m.field.now ≡ field.now) × (m.matrix.codes.now ≡ codes.now) × (m.matrix.k ≡ k) × (m.matrix.n ≡ n)) }
     ensures room { OnOk result (2 * (k * n) ≤ scratch) }
 {
-    if k < 1 || k > 32 || n < k || n > 64 {
+    if !(1..=32).contains(&k) || !(k..=64).contains(&n) {
         return Err(FormsRefusal::Shape);
     }
     if codes.len() != k * n {
@@ -66,7 +66,7 @@ impl<'a, F: Field> CodeMatrix<'a, F> {
     }
 }
 
-// Tests the rows too.
+// The matrix of these codes with its rows tested too.
 pub(crate) fn check_rows<'a, F: Field>(
     field: &'a F,
     codes: &'a [u8],

@@ -34,7 +34,7 @@ fn report<F: Field>(rt: &HostRuntime, field: &F) -> anyhow::Result<()> {
     let mut forms = [Form::EMPTY; 8];
     let start = Instant::now(rt)?;
     for _ in 0..TURNS {
-        let _ = make_forms(field, &codes, 32, 64, scratch.as_mut_slice(), &mut forms);
+        make_forms(field, &codes, 32, 64, scratch.as_mut_slice(), &mut forms)?;
     }
     let nanos = start.elapsed(rt)?.as_nanos();
     let micros = nanos / u128::from(TURNS) / 1000;
@@ -44,8 +44,7 @@ fn report<F: Field>(rt: &HostRuntime, field: &F) -> anyhow::Result<()> {
         print!(rt; " {rank}")?;
     }
     println!(rt; "")?;
-    eprintln!(rt; "GF({order}): {micros} microseconds")?;
-    Ok(())
+    Ok(eprintln!(rt; "GF({order}): {micros} microseconds")?)
 }
 
 fn main(rt: HostRuntime) -> anyhow::Result<()> {

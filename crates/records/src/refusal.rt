@@ -39,8 +39,8 @@ impl TrailRefusal {
         match self {
             TrailRefusal::BufferShort => 50,
             TrailRefusal::PartialRecord => 52,
-            TrailRefusal::FieldOutside { at: _ } => 53,
-            TrailRefusal::RollFull { at: _ } => 41,
+            TrailRefusal::FieldOutside { .. } => 53,
+            TrailRefusal::RollFull { .. } => 41,
         }
     }
 
@@ -49,10 +49,8 @@ impl TrailRefusal {
         ensures value { result ≡ place self }
     {
         match self {
-            TrailRefusal::BufferShort => 0,
-            TrailRefusal::PartialRecord => 0,
-            TrailRefusal::FieldOutside { at } => at,
-            TrailRefusal::RollFull { at } => at,
+            TrailRefusal::BufferShort | TrailRefusal::PartialRecord => 0,
+            TrailRefusal::FieldOutside { at } | TrailRefusal::RollFull { at } => at,
         }
     }
 }

@@ -39,7 +39,7 @@ fn answer(rt: &HostRuntime, line: &str) -> anyhow::Result<()> {
                 records,
             },
         ) => write(rt, slots, length, records),
-        Err(Fault::OutOfMemory) => Err(Fault::OutOfMemory.into()),
+        Err(fault @ Fault::OutOfMemory) => Err(fault.into()),
         Err(fault) => Ok(println!(rt; "{fault}")?),
     }
 }

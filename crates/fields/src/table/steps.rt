@@ -55,7 +55,7 @@ fn filled(q: Order, weights: &[u8]) -> TableWeight
 fn is_weight(w: u8) -> bool
     ensures value { result ≡ (nat_le 1 w && nat_le w 8) }
 {
-    1 <= w && w <= TOP
+    (1..=TOP).contains(&w)
 }
 
 // The place of the first weight outside 1 to 8.

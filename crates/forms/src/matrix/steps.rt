@@ -72,6 +72,7 @@ impl<'a> MatrixMut<'a> {
                 let start = i * n;
                 let row = &mut self.codes[start..start + n];
                 let factor = field.negative(field.product(row[column], inverse));
+                // Both have n numbers, so no refusal comes.
                 let _ = add_multiple(field, factor, source, row);
             }
         }
