@@ -1,5 +1,5 @@
 #!/bin/bash
-# Lists the places of each form that the design pass looks for, from the sources alone: `tools/places.sh` in the root of the repository.
+# Lists, from the sources alone, the places of each form that docs/DESIGN-PASS.md counts: `tools/places.sh` in the root of the repository.
 # `tools/places.sh -c` prints the number of places only.
 src=$(find crates/*/src -name '*.rt' | sort)
 point() {
