@@ -50,7 +50,8 @@ impl TrailRefusal {
     {
         match self {
             TrailRefusal::BufferShort | TrailRefusal::PartialRecord => 0,
-            TrailRefusal::FieldOutside { at } | TrailRefusal::RollFull { at } => at,
+            TrailRefusal::FieldOutside { at } => at,
+            TrailRefusal::RollFull { at } => at,
         }
     }
 }
