@@ -1,3 +1,4 @@
+pub mod Exits
 pub mod Numerals
 pub mod Pieces
 pub mod NextParts

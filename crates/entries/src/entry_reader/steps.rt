@@ -19,6 +19,7 @@ use crate::refusal::TextRefusal;
 use crate::rows::decode_row;
 
 // Reads the rows that are due after a header, and writes their codes in row order.
+#[tactic(auto, using(crate::proofs::RowSteps::row_fails))]
 fn read_rows(
     parts: &mut PartReader<'_>,
     header: Header,
@@ -39,6 +40,7 @@ fn read_rows(
 }
 
 // Reads the header that is due, or finds the end of the text.
+#[tactic(auto, using(crate::proofs::EntrySteps::header_refused))]
 fn read_header(parts: &mut PartReader<'_>) -> Result<Option<Header>, TextRefusal>
     requires { header_due parts.old.due ≡ true }
     ensures value { HeaderRead parts.old result }
@@ -49,6 +51,7 @@ fn read_header(parts: &mut PartReader<'_>) -> Result<Option<Header>, TextRefusal
 }
 
 // Finds the end of an entry whose rows are read.
+#[tactic(auto, using(crate::proofs::EntrySteps::end_fails, crate::proofs::EntrySteps::ended))]
 fn read_end(parts: &mut PartReader<'_>) -> Result<(), TextRefusal>
     requires { parts.old.due ≡ Due.Ending }
     ensures value { MatchResult result (λ _. end_fault (left parts.old) (parts.old.passed + 1) ≡ None) (λ f. end_fault (left parts.old) (parts.old.passed + 1) ≡ Some f) }

@@ -89,6 +89,7 @@ impl<'t> PartReader<'t> {
     }
 
     // The symbols of the row that is due.
+    #[tactic(auto, using(crate::proofs::NextParts::row_missing))]
     pub(crate) fn next_row(&mut self, header: Header, after: usize) -> Result<&'t [u8], TextRefusal>
         requires { self.old.due ≡ Due.Row header after }
         ensures value { MatchResult result (λ s. Ok (Some (row_part s.now)) ≡ next_part (Due.Row header after) (left self.old) (self.old.passed + 1)) (λ f. Err f ≡ next_part (Due.Row header after) (left self.old) (self.old.passed + 1)) }

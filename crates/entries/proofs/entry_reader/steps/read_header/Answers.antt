@@ -4,11 +4,6 @@ use Rattle.std.proofs.lemmas.Result.{err_from_is_err_and}
 use Rattle.entries.proofs.EntrySteps.{header_refused, header_found}
 use Rattle.entries.proofs.entry_reader.steps.read_header.Goals as goal
 
-pub returns-in_err-next_part-clause-value : goal.returns-in_err-next_part-clause-value
-returns-in_err-next_part-clause-value c =
-    let p = err_from_is_err_and c.from_residual.result c.from_residual.ensures.1 in
-    rw (p.1, p.2) (header_refused c.args.parts.now c.requires _ c.in_err-next_part.ensures.value)
-
 pub returns : goal.returns
 returns c =
     let part = c.in_ok-next_part.ensures in

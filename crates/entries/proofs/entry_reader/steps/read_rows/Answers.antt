@@ -42,13 +42,3 @@ loop-row-preserved c =
       inv.5 ∙ ap (λ (m : ℕ). rows_fault h m (left c.loop-row.parts) (c.loop-row.parts.passed + 1)) before ∙ read.rest ∙ ap (λ (m : ℕ). rows_fault h m (left c.next_row.new.self) (c.next_row.new.self.passed + 1)) after,
       rows_more c.loop-row.codes c.decode_row.new.codes ls row h.n _ (omega (arith, some)) long (omega (arith, within, c.requires.3, c.loop-row.auto.codes)) (c.decode_row.ensures.after ∙ ap row_codes (read.same ∙ here)) inv.6,
     )
-
-pub returns-in_err-symbols-clause-value : goal.returns-in_err-symbols-clause-value
-returns-in_err-symbols-clause-value c =
-    let h = c.args.header in
-    let row = c.loop-row.row in
-    let inv = c.loop-row.invariant in
-    let before : h.k - row ≡ h.k - 1 - row + 1 = omega (arith, c.loop-row-test.true) in
-    let p = err_from_is_err_and c.from_residual.result c.from_residual.ensures.1 in
-    let fault = row_fails h (h.k - 1 - row) (left c.loop-row.parts) (c.loop-row.parts.passed + 1) _ c.in_err-symbols.ensures.value in
-    rw (p.1, p.2) (inv.5 ∙ ap (λ (m : ℕ). rows_fault h m (left c.loop-row.parts) (c.loop-row.parts.passed + 1)) before ∙ fault)
