@@ -77,6 +77,7 @@ impl<'t> EntryReader<'t> {
     }
 
     // The next entry: what its header says, and its codes in row order at the front of the caller's place; or the end of the text; or the first fault, which is given again.
+    #[tactic(auto, using(crate::proofs::WholeEntries::size_read))]
     pub fn next_entry(
         &mut self,
         codes: &mut [u8; MOST_CODES],
