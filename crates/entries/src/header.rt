@@ -100,11 +100,10 @@ pub(crate) fn header_values(words: &HeaderWords<'_>, line: usize) -> Result<Head
         field,
         weight,
     };
-    if header.within_limits() {
-        Ok(header)
-    } else {
-        Err(TextRefusal::OutsideLimits { line })
-    }
+    header
+        .within_limits()
+        .then_some(header)
+        .ok_or(TextRefusal::OutsideLimits { line })
 }
 
 // The number that a word of a line writes.

@@ -9,12 +9,7 @@ returns-in_err-weight c =
     let weighed = values-weighed (word_list c.args.words.now) c.args.line _ _ _ _ _ _ _ _ c.in_ok-n.ensures.value c.in_ok-k.ensures.value c.in_ok-claim.ensures.value c.in_ok-field.ensures.value in
     record { value = search (rules, weighed) }
 
-pub returns-then-within_limits : goal.returns-then-within_limits
-returns-then-within_limits c =
-    let read = values-read (word_list c.args.words.now) c.args.line _ _ _ _ _ _ _ _ c.in_ok-n.ensures.value c.in_ok-k.ensures.value c.in_ok-claim.ensures.value c.in_ok-field.ensures.value _ _ c.in_ok-weight.ensures.value in
-    record { value = search (rules, read) }
-
-pub returns-else-within_limits : goal.returns-else-within_limits
-returns-else-within_limits c =
+pub returns : goal.returns
+returns c =
     let read = values-read (word_list c.args.words.now) c.args.line _ _ _ _ _ _ _ _ c.in_ok-n.ensures.value c.in_ok-k.ensures.value c.in_ok-claim.ensures.value c.in_ok-field.ensures.value _ _ c.in_ok-weight.ensures.value in
     record { value = search (rules, read) }
