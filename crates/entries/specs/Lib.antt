@@ -11,5 +11,6 @@ pub mod Parts
 pub mod Entries
 pub mod Readers
 pub mod HeaderReads
+pub mod RowReads
 pub mod Written
 pub mod EntryReaders

@@ -5,17 +5,28 @@ ghost use Rattle.entries.specs.Refusals.{number, line, column};
 use std::error::Error;
 use std::fmt;
 
+// The first fault found: of the text as a whole, of a header, of a row, or of an entry's end.
 #[derive(Clone, Copy, PartialEq, Eq, Debug)]
 pub enum TextRefusal {
+    // The text has more than 60,000 bytes.
     TooLong,
+    // The line is not six words, none empty, the first `code`.
     HeaderShape { line: usize },
+    // n, k or the claim is not one to three digits, or starts with 0.
     BadNumber { line: usize, column: usize },
+    // The word names no field.
     UnknownField { line: usize, column: usize },
+    // The word names no weight of the field.
     UnknownWeight { line: usize, column: usize },
+    // n, k or the claim is outside the limits.
     OutsideLimits { line: usize },
+    // The text ends where a row is due.
     MissingRow { line: usize },
+    // The row is not n bytes long.
     RowLength { line: usize },
+    // A line that is not empty stands where the entry should end.
     NoEntryEnd { line: usize },
+    // The symbol is no element of the field.
     BadSymbol { line: usize, column: usize },
 }
 

@@ -1,13 +1,12 @@
 // What the reader of entries does.
 ghost use Rattle.std.specs.Prelude.{◌≡◌, ◌+◌, ◌*◌, ◌≤◌, min, true, [], length, take, drop, Some, None, MatchResult, OnOk};
-ghost use Rattle.std.specs.List.{flat_map};
 ghost use Rattle.entries.specs.Lines.{lines};
 ghost use Rattle.entries.specs.Headers.{header_reading};
-ghost use Rattle.entries.specs.Rows.{row_codes};
 ghost use Rattle.entries.specs.Parts.{rows_due, header_due};
 ghost use Rattle.entries.specs.Readers.{text_of, left};
-ghost use Rattle.entries.specs.Entries.{rows_fault, end_fault};
+ghost use Rattle.entries.specs.Entries.{end_fault};
 ghost use Rattle.entries.specs.HeaderReads.{HeaderRead, HeaderPassed};
+ghost use Rattle.entries.specs.RowReads.{RowsRead};
 ghost use Rattle.entries.specs.EntryReaders.{text_in, lines_left, lines_read, entry_answer, EntryAfter, codes_after, ReadAs, HandsOut};
 ghost use Rattle.entries.specs.Written.{Lined};
 
@@ -26,7 +25,7 @@ fn read_rows(
     codes: &mut [u8],
 ) -> Result<(), TextRefusal>
     requires { (parts.old.due ≡ rows_due header header.k) × (header.k ≤ 32) × (header.n ≤ 64) × (length codes.old ≡ 2048) }
-    ensures value { MatchResult result (λ _. (header.k ≤ length (left parts.old)) × (rows_fault header header.k (left parts.old) (parts.old.passed + 1) ≡ rows_fault header 0 (left parts.new) (parts.new.passed + 1)) × (take (header.k * header.n) codes.new ≡ flat_map row_codes (take header.k (left parts.old)))) (λ f. rows_fault header header.k (left parts.old) (parts.old.passed + 1) ≡ Some f) }
+    ensures value { RowsRead parts.old header result parts.new codes.new }
     ensures after { OnOk result ((left parts.new ≡ drop header.k (left parts.old)) × (parts.new.passed ≡ parts.old.passed + header.k) × (parts.new.due ≡ rows_due header 0)) }
     ensures text { text_of parts.new ≡ text_of parts.old }
 {
