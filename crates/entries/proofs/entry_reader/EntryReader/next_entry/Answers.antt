@@ -1,5 +1,5 @@
 -- The header, the rows and the end of an entry together.
-use Rattle.std.proofs.Common.{◌≡◌, ℕ, ◌+◌, ◌*◌, min, List, [], length, take, drop, Ok, Option, sym, refl, ap, ◌∙◌, subst, arith}
+use Rattle.std.proofs.Common.{◌≡◌, ℕ, ◌+◌, ◌*◌, min, List, length, take, drop, Ok, Option, sym, refl, ap, ◌∙◌, subst}
 use Rattle.entries.specs.declared.header.Header.{Header}
 use Rattle.std.specs.List.{flat_map}
 use Rattle.entries.specs.Rows.{row_codes}

@@ -1,8 +1,7 @@
 -- The end of the text, an empty line, or a fault.
 use Rattle.std.proofs.Common.{◌+◌}
 use Rattle.entries.specs.Readers.{left}
-use Rattle.entries.proofs.EntrySteps.{end_none, end_fails, ended}
-use Rattle.entries.proofs.Exits.{same_error}
+use Rattle.entries.proofs.EntrySteps.{end_none}
 use Rattle.entries.proofs.entry_reader.steps.read_end.Goals as goal
 
 pub returns-clause-value : goal.returns-clause-value

@@ -1,7 +1,6 @@
 -- The header, the end of the text, or the first fault.
 use Rattle.std.proofs.Common.{rules}
-use Rattle.std.proofs.lemmas.Result.{err_from_is_err_and}
-use Rattle.entries.proofs.EntrySteps.{header_refused, header_found}
+use Rattle.entries.proofs.EntrySteps.{header_found}
 use Rattle.entries.proofs.entry_reader.steps.read_header.Goals as goal
 
 pub returns : goal.returns

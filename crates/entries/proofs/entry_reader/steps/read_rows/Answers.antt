@@ -1,13 +1,12 @@
 -- One row more.
 use Rattle.std.proofs.Common.{◌≡◌, ℕ, ◌+◌, ◌-◌, ◌≤◌, List, [], length, get_or, drop, ap, ◌∙◌, add-zero, arith}
 use Rattle.std.proofs.lemmas.List.{drop-drop, length-drop, length-take, length-map, get_or-drop}
-use Rattle.std.proofs.lemmas.Result.{err_from_is_err_and}
 use Rattle.entries.specs.Rows.{row_codes}
 use Rattle.entries.specs.Parts.{rows_due}
 use Rattle.entries.specs.Readers.{left}
 use Rattle.entries.specs.Entries.{rows_fault}
 use Rattle.entries.proofs.Matrices.{row_within, rows_more}
-use Rattle.entries.proofs.RowSteps.{row_fails, row_passed}
+use Rattle.entries.proofs.RowSteps.{row_passed}
 use Rattle.entries.proofs.entry_reader.steps.read_rows.Goals as goal
 
 pub decode_row-requires : goal.decode_row-requires
