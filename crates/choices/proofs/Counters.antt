@@ -1,24 +1,27 @@
 -- What holds of every visit counter, from the promises of its type.
-use Rattle.std.proofs.Common.{◌≡◌, ℕ, ◌-◌, ◌^◌, ◌<◌, ◌≤◌, true, List, length, sym, ◌∙◌, arith}
-use Rattle.choices.specs.Places.{StandsAt}
+use Rattle.std.proofs.Common.{◌≡◌, ℕ, ◌+◌, ◌-◌, ◌^◌, ◌<◌, ◌≤◌, true, ltb, List, length, sym, refl, ◌∙◌, arith}
+use Rattle.std.proofs.lemmas.Bool.{lt-ltb}
+use Rattle.std.proofs.lemmas.Bool.Decides.{nat_tests}
+use Rattle.choices.specs.Places.{StandsAt, Steps}
 use Rattle.choices.specs.Sizes.{level_size}
 use Rattle.choices.specs.Choosing.{chosen, choosable}
 use Rattle.choices.specs.Coefficients.{codes_of, has_lists}
 use Rattle.choices.specs.LevelVisits.{level_visits, is_visit}
-use Rattle.std.proofs.lemmas.Bool.Decides.{nat_tests}
-use Rattle.choices.specs.Levels.{visit_of, has_level}
+use Rattle.choices.specs.Levels.{visit_of, size_of, visits_of, CounterAt, has_level}
+use Rattle.choices.specs.declared.choice.Choice.{Choice}
+use Rattle.choices.specs.declared.coefficients.Coefficients.{Coefficients}
 use Rattle.choices.specs.declared.visit_counter.VisitCounter.{VisitCounter}
 use Rattle.choices.proofs.LevelSteps.{visit_stands, stands_visit, some_rows, length_level}
 
 -- What the invariant of a counter says of its fields.
 abbrev pub Kept : VisitCounter → Type 0
-Kept v = (v.choice.t ≡ v.coefficients.t) × (v.size ≡ level_size v.choice.k v.choice.t v.coefficients.q) × (is_visit v.choice.k v.choice.t v.coefficients.q v.place (chosen v.choice) (codes_of v.coefficients) ≡ true)
+Kept v = (v.choice.t ≡ v.coefficients.t) × (v.size ≡ level_size v.choice.k v.choice.t v.coefficients.q) × (is_visit v.choice.k v.choice.t v.coefficients.q v.place (chosen v.choice) (codes_of v.coefficients) ≡ true) × (v.choice.k ≤ 32) × (2 ≤ v.coefficients.q)
 
 module _ (v : VisitCounter) (h : Kept v) where
-  pub counter_stands : StandsAt (level_visits v.choice.k v.choice.t v.coefficients.q) v.place (visit_of v)
+  pub counter_stands : StandsAt (visits_of v) v.place (visit_of v)
   counter_stands = visit_stands v.choice.k v.choice.t v.coefficients.q v.place (chosen v.choice) (codes_of v.coefficients) h.2
 
-  pub counter_length : length (level_visits v.choice.k v.choice.t v.coefficients.q) ≡ v.size
+  pub counter_length : length (visits_of v) ≡ v.size
   counter_length = length_level v.choice.k v.choice.t v.coefficients.q (some_rows v.choice.k v.choice.t v.coefficients.q (chosen v.choice) (codes_of v.coefficients) v.place counter_stands) ∙ sym h.1
 
   pub counter_below : v.place < v.size
@@ -36,10 +39,17 @@ module _ {k t q k' t' q' : ℕ} (same-k : k' ≡ k) (same-t : t' ≡ t) (same-q 
   pub size_moved : (s : ℕ) → s ≡ level_size k t q → s ≡ level_size k' t' q'
   size_moved s e = rw (same-k, same-t, same-q) e
 
--- Fields that stand at a visit of the same level are kept too.
-pub counter_kept : (v w : VisitCounter) → Kept v → w.choice.k ≡ v.choice.k → w.choice.t ≡ v.choice.t → w.coefficients.q ≡ v.coefficients.q → w.coefficients.t ≡ v.coefficients.t → w.size ≡ v.size → StandsAt (level_visits v.choice.k v.choice.t v.coefficients.q) w.place (visit_of w) → Kept w
-counter_kept v w h k t q s e at = (t ∙ h.0 ∙ sym s, size_moved k t q w.size (e ∙ h.1), test_moved k t q w.place (chosen w.choice) (codes_of w.coefficients) at)
-
 -- What the test of a level tells.
 pub level_tells : (k t q : ℕ) → has_level k t q ≡ true → (k ≤ 32) × (1 ≤ t) × (t ≤ k) × (2 ≤ q)
 level_tells k t q h = grind (arith, nat_tests)
+
+-- A step of the visit is a step of the counter: its fields are kept, and there is such a visit.
+module _ (v : VisitCounter) (h : Kept v) (choice : Choice) (list : Coefficients) (same : (choice.k ≡ v.choice.k) × (choice.t ≡ v.choice.t) × (list.q ≡ v.coefficients.q) × (list.t ≡ v.coefficients.t)) (next : Steps (visits_of v) true (visit_of v) (chosen choice, codes_of list)) where
+  pub stepped_kept : Kept record { choice = choice; coefficients = list; place = v.place + 1; size = v.size }
+  stepped_kept = (same.1 ∙ h.0 ∙ sym same.3, size_moved same.0 same.1 same.2 v.size h.1, test_moved same.0 same.1 same.2 (v.place + 1) (chosen choice) (codes_of list) (next v.place (counter_stands v h)), rw same.0 h.3, rw same.2 h.4)
+
+  pub stepped_below : true ≡ ltb (v.place + 1) (size_of v)
+  stepped_below = sym (lt-ltb (v.place + 1) (size_of v) (omega (arith, (next v.place (counter_stands v h)).0, counter_length v h, h.1)))
+
+  pub stepped_at : CounterAt v.choice.k v.choice.t v.coefficients.q (v.place + 1) record { choice = choice; coefficients = list; place = v.place + 1; size = v.size }
+  stepped_at = (same.0, same.1, same.2, refl, next v.place (counter_stands v h))

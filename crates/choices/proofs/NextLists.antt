@@ -37,12 +37,21 @@ take-replicate (suc n) (suc t) l = ap (λ u. 1 ∷ u) (take-replicate n t (omega
 pub ones_stand : (q t : ℕ) → 2 ≤ q → 1 ≤ t → t ≤ 32 → StandsAt (coefficients q t) 0 (take t (replicate 32 1))
 ones_stand q t two some small = subst (StandsAt (coefficients q t) 0) (sym (take-replicate 32 t small)) (first_stands (coefficients q t) (replicate t 1) (first-list q two t some))
 
-pub ones_listed : (q t : ℕ) → 2 ≤ q → 1 ≤ t → t ≤ 32 → listed (coefficients q t) (take t (replicate 32 1)) ≡ true
-ones_listed q t two some small = stands_listed (coefficients q t) 0 _ (ones_stand q t two some small)
+-- Codes that are all 1 are kept as coefficients.
+pub ones_kept : (q t : ℕ) → 2 ≤ q → 1 ≤ t → t ≤ 32 → (t ≤ 32) × (2 ≤ q) × (listed (coefficients q t) (take t (replicate 32 1)) ≡ true)
+ones_kept q t two some small = (small, two, stands_listed (coefficients q t) 0 _ (ones_stand q t two some small))
 
-pub list_rows : (q t : ℕ) (cs : List ℕ) → listed (coefficients q t) cs ≡ true → 1 ≤ t
+list_rows : (q t : ℕ) (cs : List ℕ) → listed (coefficients q t) cs ≡ true → 1 ≤ t
 list_rows q zero cs h = absurd (listed_in (coefficients q 0) cs h)
 list_rows q (suc t) cs h = omega arith
+
+-- So are they in place of coefficients that are kept, and they stand first.
+module _ (q t : ℕ) (cs : List ℕ) (h : (t ≤ 32) × (2 ≤ q) × (listed (coefficients q t) cs ≡ true)) where
+  pub ones_stand-again : StandsAt (coefficients q t) 0 (take t (replicate 32 1))
+  ones_stand-again = ones_stand q t h.1 (list_rows q t cs h.2) h.0
+
+  pub ones_kept-again : (t ≤ 32) × (2 ≤ q) × (listed (coefficients q t) (take t (replicate 32 1)) ≡ true)
+  ones_kept-again = ones_kept q t h.1 (list_rows q t cs h.2) h.0
 
 pub all_lists : (q t : ℕ) → AllLists q t
 all_lists q t two = (coefficients_are q two t, length_lists q t)

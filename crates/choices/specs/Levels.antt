@@ -14,6 +14,14 @@ use Rattle.choices.specs.declared.visit_counter.VisitCounter.{VisitCounter}
 abbrev pub visit_of : VisitCounter → List ℕ × List ℕ
 visit_of v = (chosen v.choice, codes_of v.coefficients)
 
+-- The number of visits of the level at which a counter stands.
+abbrev pub size_of : VisitCounter → ℕ
+size_of v = level_size v.choice.k v.choice.t v.coefficients.q
+
+-- The visits of the level at which a counter stands, in order.
+abbrev pub visits_of : VisitCounter → List (List ℕ × List ℕ)
+visits_of v = level_visits v.choice.k v.choice.t v.coefficients.q
+
 -- The counter stands at visit i of level t of k rows over q codes: i visits come before it.
 abbrev pub CounterAt : ℕ → ℕ → ℕ → ℕ → VisitCounter → Type 0
 CounterAt k t q i v = (v.choice.k ≡ k) × (v.choice.t ≡ t) × (v.coefficients.q ≡ q) × (v.place ≡ i) × StandsAt (level_visits k t q) i (visit_of v)

@@ -19,7 +19,7 @@ fn row_goes_up(rows: &[usize], place: usize) -> bool
     (rows.len() - (place + 1)) % 2 == 0
 }
 
-// Whether the row at a place is at its end.
+// Whether the row at a place is at its end, where it goes no further: going up, right below the row above it (or k); going down, at its lowest, the number of its place.
 fn row_at_end(rows: &[usize], k: usize, place: usize) -> bool
     requires { place < length rows.now }
     ensures value { result ≡ at_end k rows.now place }
@@ -38,7 +38,7 @@ fn movable_row(rows: &[usize], k: usize) -> Option<usize>
     (0..rows.len()).find(|place| !row_at_end(rows, k, *place))
 }
 
-// The row at a place goes up by one, and the row below it takes its place.
+// The row at a place goes up by one, and the row below it takes its place. At place 0 there is no row below: the first write then goes to place 0 too, and the second replaces it.
 fn raise_row(rows: &mut [usize], place: usize)
     requires { (place < length rows.old) × (slice_index rows.old place < 32) }
     ensures after { rows.new ≡ raised rows.old place }
@@ -48,7 +48,7 @@ fn raise_row(rows: &mut [usize], place: usize)
     rows[place] = row + 1;
 }
 
-// The row at a place goes down by one, and the row below it goes to its lowest.
+// The row at a place goes down by one, and the row below it goes to its lowest. At place 0 the second write replaces the first, as above.
 fn lower_row(rows: &mut [usize], place: usize)
     requires { (place < length rows.old) × (0 < slice_index rows.old place) }
     ensures after { rows.new ≡ lowered rows.old place }
@@ -58,7 +58,7 @@ fn lower_row(rows: &mut [usize], place: usize)
     rows[place] = row - 1;
 }
 
-// The step to the next choice; false, and nothing changes, after the last.
+// The step to the next choice; false, and nothing changes, at the last.
 pub(crate) fn step_rows(rows: &mut [usize], k: usize) -> bool
     requires { (k ≤ 32) × (is_choice k (length rows.old) rows.old ≡ true) }
     ensures value { Steps k (length rows.old) result rows.old rows.new }

@@ -4,7 +4,7 @@ ghost use Rattle.theory.specs.Visits.{coefficients as coefficient_lists};
 ghost use Rattle.choices.specs.Places.{listed, Steps};
 ghost use Rattle.choices.specs.Turns.{FullBehind, LastToTurn, turned};
 
-// The last place behind the first whose code is not q - 1.
+// Of the places from 1 on, the last whose code is not q - 1.
 fn place_to_turn(codes: &[u8], q: u8) -> Option<usize>
     requires { 2 ≤ q }
     ensures value { MatchOption result (FullBehind q codes.now 0) (λ p. LastToTurn q codes.now p) }
@@ -24,7 +24,7 @@ fn turn_at(codes: &mut [u8], place: usize)
     codes[place + 1..].fill(1);
 }
 
-// The step to the next coefficients; false, and nothing changes, after the last.
+// The step to the next coefficients; false, and nothing changes, at the last.
 pub(crate) fn step_codes(codes: &mut [u8], q: u8) -> bool
     requires { (2 ≤ q) × (listed (coefficient_lists q (length codes.old)) codes.old ≡ true) }
     ensures value { Steps (coefficient_lists q (length codes.old)) result codes.old codes.new }

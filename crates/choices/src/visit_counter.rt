@@ -1,11 +1,10 @@
 // A visit counter: a place in a level, with the rows and the coefficients of the visit there.
-ghost use Rattle.std.specs.Prelude.{◌≡◌, ◌+◌, ◌-◌, ◌<◌, if◌then◌else◌, nat_lt};
+ghost use Rattle.std.specs.Prelude.{◌≡◌, ◌+◌, ◌-◌, ◌<◌, ◌≤◌, if◌then◌else◌, nat_lt};
 ghost use Rattle.choices.specs.Places.{StandsAt, Steps};
-ghost use Rattle.choices.specs.Sizes.{level_size};
 ghost use Rattle.choices.specs.Choosing.{chosen};
 ghost use Rattle.choices.specs.Coefficients.{codes_of};
 ghost use Rattle.choices.specs.LevelVisits.{level_visits};
-ghost use Rattle.choices.specs.Levels.{visit_of, CounterAt, CounterOr, IsVisit};
+ghost use Rattle.choices.specs.Levels.{visit_of, size_of, visits_of, CounterAt, CounterOr, IsVisit};
 
 use crate::choice::Choice;
 use crate::coefficients::Coefficients;
@@ -22,7 +21,7 @@ pub struct VisitCounter {
 }
 
 impl Model for VisitCounter {
-    ghost use Rattle.std.specs.Prelude.{◌≡◌, true, take};
+    ghost use Rattle.std.specs.Prelude.{◌≡◌, ◌≤◌, true, take};
     ghost use Rattle.choices.specs.Held.{HeldVisit};
     ghost use Rattle.choices.specs.Sizes.{level_size};
     ghost use Rattle.choices.specs.LevelVisits.{is_visit};
@@ -33,7 +32,7 @@ impl Model for VisitCounter {
 
     ghost inverse = { λ v. record { choice = v.choice; coefficients = v.coefficients; place = v.place; size = v.size } };
 
-    ghost invariant = { λ v. (v.choice.t ≡ v.coefficients.t) × (v.size ≡ level_size v.choice.k v.choice.t v.coefficients.q) × (is_visit v.choice.k v.choice.t v.coefficients.q v.place (take v.choice.t v.choice.rows) (take v.coefficients.t v.coefficients.codes) ≡ true) };
+    ghost invariant = { λ v. (v.choice.t ≡ v.coefficients.t) × (v.size ≡ level_size v.choice.k v.choice.t v.coefficients.q) × (is_visit v.choice.k v.choice.t v.coefficients.q v.place (take v.choice.t v.choice.rows) (take v.coefficients.t v.coefficients.codes) ≡ true) × (v.choice.k ≤ 32) × (2 ≤ v.coefficients.q) };
 }
 
 // The step to the next visit: the next coefficients, or the next choice with the first ones; false, and nothing changes, at the last.
@@ -109,7 +108,7 @@ impl VisitCounter {
     // How many visits of the level come before this one.
     pub fn place(&self) -> u64
         ensures value { result ≡ self.now.place }
-        ensures stands { StandsAt (level_visits self.now.choice.k self.now.choice.t self.now.coefficients.q) result (visit_of self.now) }
+        ensures stands { StandsAt (visits_of self.now) result (visit_of self.now) }
         ensures visit { IsVisit self.now.choice.k self.now.choice.t self.now.coefficients.q result (visit_of self.now) }
     {
         self.place
@@ -117,15 +116,16 @@ impl VisitCounter {
 
     // How many visits of the level are left, this one counted.
     pub fn left(&self) -> u64
-        ensures value { result ≡ level_size self.now.choice.k self.now.choice.t self.now.coefficients.q - self.now.place }
+        ensures value { result ≡ size_of self.now - self.now.place }
         ensures some { 0 < result }
+        ensures kept { (self.now.choice.k ≤ 32) × (2 ≤ self.now.coefficients.q) × (self.now.size ≡ size_of self.now) }
     {
         self.size - self.place
     }
 
     // The step to the next visit; false, and nothing changes, at the last. To stand at the last is no error, so the answer is a bool.
     pub fn step(&mut self) -> bool
-        ensures value { result ≡ nat_lt (self.old.place + 1) (level_size self.old.choice.k self.old.choice.t self.old.coefficients.q) }
+        ensures value { result ≡ nat_lt (self.old.place + 1) (size_of self.old) }
         ensures after { CounterAt self.old.choice.k self.old.choice.t self.old.coefficients.q (self.old.place + (if result then 1 else 0)) self.new }
     {
         if !next_visit(&mut self.choice, &mut self.coefficients) {

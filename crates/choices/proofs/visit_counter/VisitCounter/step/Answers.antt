@@ -6,7 +6,7 @@ use Rattle.choices.specs.Sizes.{level_size}
 use Rattle.choices.specs.Choosing.{chosen}
 use Rattle.choices.specs.Coefficients.{codes_of}
 use Rattle.choices.specs.LevelVisits.{level_visits}
-use Rattle.choices.proofs.Counters.{counter_below, counter_stands, counter_length, counter_kept}
+use Rattle.choices.proofs.Counters.{counter_below, counter_stands, counter_length, stepped_kept, stepped_below, stepped_at}
 use Rattle.choices.proofs.visit_counter.VisitCounter.step.Goals as goal
 
 pub returns-then-not-next_visit : goal.returns-then-not-next_visit
@@ -25,17 +25,11 @@ pub overflow_add-self : goal.overflow_add-self
 overflow_add-self c = omega (arith, counter_below _ c.self.invariant, c.self.ranges)
 
 pub invariant_of-self-2 : goal.invariant_of-self-2
-invariant_of-self-2 c =
-    let same = c.if-not-next_visit.ensures.same in
-    counter_kept _ _ c.self.invariant same.0 same.1 same.2 same.3 refl (c.if-not-next_visit.ensures.value c.self.inside.place (counter_stands _ c.self.invariant))
+invariant_of-self-2 c = stepped_kept _ c.self.invariant _ _ c.if-not-next_visit.ensures.same c.if-not-next_visit.ensures.value
 
 pub returns : goal.returns
 returns c =
     let v = c.self.inside in
     let h = c.self.invariant in
-    let same = c.if-not-next_visit.ensures.same in
-    let next = c.if-not-next_visit.ensures.value v.place (counter_stands _ h) in
-    rw (← c.self.view_is) record {
-      value = sym (lt-ltb (v.place + 1) (level_size v.choice.k v.choice.t v.coefficients.q) (omega (arith, next.0, counter_length _ h, h.1)));
-      after = (same.0, same.1, same.2, refl, next);
-    }
+    let over = c.if-not-next_visit.ensures in
+    rw (← c.self.view_is) record { value = stepped_below _ h _ _ over.same over.value; after = stepped_at _ h _ _ over.same over.value }
