@@ -1,6 +1,6 @@
 -- What holds of every visit counter, from the promises of its type.
-use Rattle.std.proofs.Common.{◌≡◌, ℕ, ◌+◌, ◌-◌, ◌^◌, ◌<◌, ◌≤◌, true, ltb, List, length, sym, refl, ◌∙◌, arith}
-use Rattle.std.proofs.lemmas.Bool.{lt-ltb}
+use Rattle.std.proofs.Common.{◌≡◌, ℕ, ◌+◌, ◌-◌, ◌^◌, ◌<◌, ◌≤◌, true, false, ltb, List, length, sym, refl, ◌∙◌, subst, add-zero, arith}
+use Rattle.std.proofs.lemmas.Bool.{lt-ltb, le-ltb}
 use Rattle.std.proofs.lemmas.Bool.Decides.{nat_tests}
 use Rattle.choices.specs.Places.{StandsAt, Steps}
 use Rattle.choices.specs.Sizes.{level_size}
@@ -43,13 +43,21 @@ module _ {k t q k' t' q' : ℕ} (same-k : k' ≡ k) (same-t : t' ≡ t) (same-q 
 pub level_tells : (k t q : ℕ) → has_level k t q ≡ true → (k ≤ 32) × (1 ≤ t) × (t ≤ k) × (2 ≤ q)
 level_tells k t q h = grind (arith, nat_tests)
 
--- A step of the visit is a step of the counter: its fields are kept, and there is such a visit.
-module _ (v : VisitCounter) (h : Kept v) (choice : Choice) (list : Coefficients) (same : (choice.k ≡ v.choice.k) × (choice.t ≡ v.choice.t) × (list.q ≡ v.coefficients.q) × (list.t ≡ v.coefficients.t)) (next : Steps (visits_of v) true (visit_of v) (chosen choice, codes_of list)) where
-  pub stepped_kept : Kept record { choice = choice; coefficients = list; place = v.place + 1; size = v.size }
-  stepped_kept = (same.1 ∙ h.0 ∙ sym same.3, size_moved same.0 same.1 same.2 v.size h.1, test_moved same.0 same.1 same.2 (v.place + 1) (chosen choice) (codes_of list) (next v.place (counter_stands v h)), rw same.0 h.3, rw same.2 h.4)
+-- A step of the visit is a step of the counter: its fields are kept, and it tells whether there is such a visit.
+module _ (v : VisitCounter) (h : Kept v) (choice : Choice) (list : Coefficients) (same : (choice.k ≡ v.choice.k) × (choice.t ≡ v.choice.t) × (list.q ≡ v.coefficients.q) × (list.t ≡ v.coefficients.t)) where
+  module _ (next : Steps (visits_of v) true (visit_of v) (chosen choice, codes_of list)) where
+    pub stepped_kept : Kept record { choice = choice; coefficients = list; place = v.place + 1; size = v.size }
+    stepped_kept = (same.1 ∙ h.0 ∙ sym same.3, size_moved same.0 same.1 same.2 v.size h.1, test_moved same.0 same.1 same.2 (v.place + 1) (chosen choice) (codes_of list) (next v.place (counter_stands v h)), rw same.0 h.3, rw same.2 h.4)
 
-  pub stepped_below : true ≡ ltb (v.place + 1) (size_of v)
-  stepped_below = sym (lt-ltb (v.place + 1) (size_of v) (omega (arith, (next v.place (counter_stands v h)).0, counter_length v h, h.1)))
+    pub stepped_below : true ≡ ltb (v.place + 1) (size_of v)
+    stepped_below = sym (lt-ltb (v.place + 1) (size_of v) (omega (arith, (next v.place (counter_stands v h)).0, counter_length v h, h.1)))
 
-  pub stepped_at : CounterAt v.choice.k v.choice.t v.coefficients.q (v.place + 1) record { choice = choice; coefficients = list; place = v.place + 1; size = v.size }
-  stepped_at = (same.0, same.1, same.2, refl, next v.place (counter_stands v h))
+    pub stepped_at : CounterAt v.choice.k v.choice.t v.coefficients.q (v.place + 1) record { choice = choice; coefficients = list; place = v.place + 1; size = v.size }
+    stepped_at = (same.0, same.1, same.2, refl, next v.place (counter_stands v h))
+
+  module _ (last : Steps (visits_of v) false (visit_of v) (chosen choice, codes_of list)) where
+    pub ended_below : false ≡ ltb (v.place + 1) (size_of v)
+    ended_below = sym (le-ltb (v.place + 1) (size_of v) (omega (arith, last.1 v.place (counter_stands v h), counter_length v h, h.1)))
+
+    pub ended_at : CounterAt v.choice.k v.choice.t v.coefficients.q (v.place + 0) record { choice = choice; coefficients = list; place = v.place; size = v.size }
+    ended_at = (same.0, same.1, same.2, sym (add-zero v.place), subst (λ i. StandsAt (visits_of v) i (chosen choice, codes_of list)) (sym (add-zero v.place)) (subst (StandsAt (visits_of v) v.place) (sym last.0) (counter_stands v h)))

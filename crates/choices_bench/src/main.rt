@@ -39,21 +39,19 @@ impl Walk for VisitCounter {
     }
 }
 
-// The number of places, up to `most`, and the sum of their numbers.
+// Goes on by up to `most` steps. It tells how many were taken, and the sum of the numbers of the places at which one was tried.
 fn run<W: Walk>(walk: &mut W, most: u64) -> (u64, u64) {
-    let mut steps: u64 = 1;
     let mut sum: u64 = 0;
-    for _ in 0..most {
+    for step in 0..most {
         sum = sum.wrapping_add(walk.number());
         if !walk.advance() {
-            break;
+            return (step, sum);
         }
-        steps = steps.wrapping_add(1);
     }
-    (steps, sum)
+    (most, sum)
 }
 
-// Steps through the places, and tells the time of a step.
+// Steps through the places, of which there is one more than steps, and tells the time of each.
 fn report<W: Walk>(
     rt: &HostRuntime,
     name: &str,
@@ -64,8 +62,9 @@ fn report<W: Walk>(
     let start = Instant::now(rt)?;
     let (steps, sum) = run(walk, most);
     let nanos = start.elapsed(rt)?.as_nanos();
-    println!(rt; "{name}: {steps} {places}, {sum}")?;
-    let tenths = nanos.saturating_mul(10) / u128::from(steps.max(1));
+    let count = steps.saturating_add(1);
+    println!(rt; "{name}: {count} {places}, {sum}")?;
+    let tenths = nanos.saturating_mul(10) / u128::from(count);
     eprintln!(rt; "{name}: {tenths} tenths of a nanosecond a step")?;
     Ok(())
 }
@@ -77,7 +76,7 @@ fn report_choices(rt: &HostRuntime, k: usize, t: usize) -> anyhow::Result<()> {
     report(rt, &name, "choices", &mut choice, u64::MAX)
 }
 
-// The first ten million visits of a level, timed.
+// The first ten million steps through the visits of a level, timed.
 fn report_visits(rt: &HostRuntime, level: Level) -> anyhow::Result<()> {
     let mut counter = VisitCounter::first(level).context("no such level")?;
     let Level { k, t, q } = level;

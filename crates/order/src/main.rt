@@ -44,6 +44,7 @@ fn answer(rt: &HostRuntime, words: &[String]) -> Result<(), OrderError> {
     }
 }
 
+// The number that a word of a request stands for; a word that is none is refused.
 fn number(word: &str) -> Result<usize, OrderError> {
     word.parse().map_err(|_| OrderError::Numbers)
 }
