@@ -114,7 +114,7 @@ impl VisitCounter {
         self.place
     }
 
-    // How many visits of the level are left, this one counted.
+    // How many visits of the level are left, this one counted; `kept` tells a caller what every counter keeps.
     pub fn left(&self) -> u64
         ensures value { result ≡ size_of self.now - self.now.place }
         ensures some { 0 < result }
