@@ -52,12 +52,18 @@ module _ (v : VisitCounter) (h : Kept v) (choice : Choice) (list : Coefficients)
     pub stepped_below : true ≡ ltb (v.place + 1) (size_of v)
     stepped_below = sym (lt-ltb (v.place + 1) (size_of v) (omega (arith, (next v.place (counter_stands v h)).0, counter_length v h, h.1)))
 
+    pub stepped_last : true ≡ ltb (v.place + 1) (length (visits_of v))
+    stepped_last = rw (counter_length v h, h.1) stepped_below
+
     pub stepped_at : CounterAt v.choice.k v.choice.t v.coefficients.q (v.place + 1) record { choice = choice; coefficients = list; place = v.place + 1; size = v.size }
     stepped_at = (same.0, same.1, same.2, refl, next v.place (counter_stands v h))
 
   module _ (last : Steps (visits_of v) false (visit_of v) (chosen choice, codes_of list)) where
     pub ended_below : false ≡ ltb (v.place + 1) (size_of v)
     ended_below = sym (le-ltb (v.place + 1) (size_of v) (omega (arith, last.1 v.place (counter_stands v h), counter_length v h, h.1)))
+
+    pub ended_last : false ≡ ltb (v.place + 1) (length (visits_of v))
+    ended_last = rw (counter_length v h, h.1) ended_below
 
     pub ended_at : CounterAt v.choice.k v.choice.t v.coefficients.q (v.place + 0) record { choice = choice; coefficients = list; place = v.place; size = v.size }
     ended_at = (same.0, same.1, same.2, sym (add-zero v.place), subst (λ i. StandsAt (visits_of v) i (chosen choice, codes_of list)) (sym (add-zero v.place)) (subst (StandsAt (visits_of v) v.place) (sym last.0) (counter_stands v h)))

@@ -1,12 +1,12 @@
 -- The size of a level is the number of its visits, and within the limits of a code it is told exactly.
-use Rattle.std.proofs.Common.{◌≡◌, ℕ, zero, suc, ◌-◌, ◌*◌, ◌^◌, ◌<◌, ◌≤◌, min, List, length, Some, sym, ap, ◌∙◌, zero-mul, mul_comm, arith}
+use Rattle.std.proofs.Common.{◌≡◌, ℕ, zero, suc, ◌-◌, ◌*◌, ◌^◌, ◌<◌, ◌≤◌, min, List, length, Some, None, sym, ap, ◌∙◌, zero-mul, mul_comm, arith}
 use Rattle.std.proofs.lemmas.Bool.Decides.{nat_tests}
 use Rattle.theory.specs.Meanings.{FieldMeaning}
 use Rattle.theory.specs.Visits.{binomial, visits}
 use Rattle.theory.proofs.Equations.{visits-is}
 use Rattle.theory.proofs.Order.Choices.{binomial-none}
 use Rattle.theory.proofs.Order.Visits.{length-visits}
-use Rattle.choices.specs.Sizes.{level_size, binomial_told, size_told, TellsVisits}
+use Rattle.choices.specs.Sizes.{level_size, binomial_told, size_told, TellsVisits, TellsExactly, CountsVisits}
 use Rattle.choices.proofs.Growth.{level_below, stop_times}
 
 level_length : (f : FieldMeaning) (n : ℕ) (rows : List (List ℕ)) (t : ℕ) → length (visits f n rows t) ≡ level_size (length rows) t f.order
@@ -19,6 +19,15 @@ pub tells_visits : (k t q r : ℕ) → r ≡ min (level_size k t q) (2 ^ 64 - 1)
 tells_visits k t q r e f n rows order long low few small =
     let whole : r ≡ level_size k t q = omega (arith, e, level_below k t q low, small) in
     ap Some (whole ∙ sym (level_length f n rows t ∙ ap (λ m. level_size m t f.order) long ∙ ap (level_size k t) order))
+
+pub counts_visits : (k t q : ℕ) → CountsVisits k t q
+counts_visits k t q f n rows order long = level_length f n rows t ∙ ap (λ m. level_size m t f.order) long ∙ ap (level_size k t) order
+
+pub tells_exactly : (k t q r : ℕ) → r ≡ min (level_size k t q) (2 ^ 64 - 1) → TellsExactly k t q (Some r)
+tells_exactly k t q r e low few small = (ap Some (omega (arith, e, level_below k t q low, small)), level_below k t q low)
+
+pub tells_none : (k t q : ℕ) → 32 < k → TellsExactly k t q None
+tells_none k t q many low few small = absurd (omega (arith, many, few))
 
 pub level_zero : (k t q : ℕ) → t ≡ 0 → level_size k t q ≡ 0
 level_zero k t q e = ap (λ s. level_size k s q) e

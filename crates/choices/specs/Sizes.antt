@@ -19,3 +19,11 @@ size_told k t q = cond (nat_lt 32 k) None (Some (min (level_size k t q) (2 ^ 64 
 -- Within the limits of a code, what is told is the number of visits of the level, whatever the field and the rows.
 abbrev pub TellsVisits : ℕ → ℕ → ℕ → Option ℕ → Type 0
 TellsVisits k t q told = (f : FieldMeaning) (n : ℕ) (rows : List (List ℕ)) → f.order ≡ q → length rows ≡ k → 2 ≤ q → k ≤ 32 → q ^ k ≤ 2 ^ 48 → told ≡ Some (length (visits f n rows t))
+
+-- The level has as many visits, whatever the field of order q and the k rows.
+abbrev pub CountsVisits : ℕ → ℕ → ℕ → Type 0
+CountsVisits k t q = (f : FieldMeaning) (n : ℕ) (rows : List (List ℕ)) → f.order ≡ q → length rows ≡ k → length (visits f n rows t) ≡ level_size k t q
+
+-- Within the limits of a code the size is told as it is, and no level has more visits than the code has words.
+abbrev pub TellsExactly : ℕ → ℕ → ℕ → Option ℕ → Type 0
+TellsExactly k t q told = 2 ≤ q → k ≤ 32 → q ^ k ≤ 2 ^ 48 → (told ≡ Some (level_size k t q)) × (level_size k t q ≤ q ^ k)

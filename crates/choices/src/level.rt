@@ -1,6 +1,6 @@
 // A level of a form: its visits have t of the form's k rows, over a field of order q.
 ghost use Rattle.std.specs.Prelude.{◌≡◌};
-ghost use Rattle.choices.specs.Sizes.{size_told, TellsVisits};
+ghost use Rattle.choices.specs.Sizes.{size_told, TellsVisits, TellsExactly, CountsVisits};
 
 use crate::binomials::binomial;
 
@@ -17,6 +17,8 @@ impl Level {
     pub fn size(self) -> Option<u64>
         ensures value { result ≡ size_told self.k self.t self.q }
         ensures visits { TellsVisits self.k self.t self.q result }
+        ensures exact { TellsExactly self.k self.t self.q result }
+        ensures counts { CountsVisits self.k self.t self.q }
     {
         let Level { k, t, q } = self;
         let choices = binomial(k, t)?;

@@ -1,6 +1,8 @@
 // A visit counter: a place in a level, with the rows and the coefficients of the visit there.
-ghost use Rattle.std.specs.Prelude.{◌≡◌, ◌+◌, ◌-◌, ◌<◌, ◌≤◌, if◌then◌else◌, nat_lt};
-ghost use Rattle.choices.specs.Places.{StandsAt, Steps};
+ghost use Rattle.std.specs.Prelude.{◌≡◌, ◌+◌, ◌-◌, ◌<◌, ◌≤◌, true, if◌then◌else◌, length, nat_lt};
+ghost use Rattle.theory.specs.Visits.{coefficients as coefficient_lists};
+ghost use Rattle.choices.specs.Moves.{is_choice};
+ghost use Rattle.choices.specs.Places.{listed, StandsAt, Steps};
 ghost use Rattle.choices.specs.Choosing.{chosen};
 ghost use Rattle.choices.specs.Coefficients.{codes_of};
 ghost use Rattle.choices.specs.LevelVisits.{level_visits};
@@ -75,6 +77,9 @@ impl VisitCounter {
         ensures value { CounterOr level.k level.t level.q place result }
     {
         let mut visit = VisitCounter::first(level)?;
+        if place >= visit.left() {
+            return None;
+        }
         for _ in 0..place {
             if !visit.step() {
                 return None;
@@ -86,6 +91,7 @@ impl VisitCounter {
     // The rows of the visit.
     pub fn rows(&self) -> &[usize]
         ensures value { result.now ≡ (visit_of self.now).0 }
+        ensures stands { (self.now.choice.k ≤ 32) × (self.now.choice.t ≤ self.now.choice.k) × (is_choice self.now.choice.k self.now.choice.t result.now ≡ true) }
     {
         self.choice.rows()
     }
@@ -93,6 +99,7 @@ impl VisitCounter {
     // The coefficients of its rows.
     pub fn coefficients(&self) -> &[u8]
         ensures value { result.now ≡ (visit_of self.now).1 }
+        ensures stands { (self.now.coefficients.t ≤ 32) × (2 ≤ self.now.coefficients.q) × (listed (coefficient_lists self.now.coefficients.q self.now.coefficients.t) result.now ≡ true) }
     {
         self.coefficients.codes()
     }
@@ -118,6 +125,7 @@ impl VisitCounter {
     pub fn left(&self) -> u64
         ensures value { result ≡ size_of self.now - self.now.place }
         ensures some { 0 < result }
+        ensures visits { result ≡ length (visits_of self.now) - self.now.place }
         ensures kept { (self.now.choice.k ≤ 32) × (2 ≤ self.now.coefficients.q) × (self.now.size ≡ size_of self.now) }
     {
         self.size - self.place
@@ -126,6 +134,7 @@ impl VisitCounter {
     // The step to the next visit; false, and nothing changes, at the last. To stand at the last is no error, so the answer is a bool.
     pub fn step(&mut self) -> bool
         ensures value { result ≡ nat_lt (self.old.place + 1) (size_of self.old) }
+        ensures last { result ≡ nat_lt (self.old.place + 1) (length (visits_of self.old)) }
         ensures after { CounterAt self.old.choice.k self.old.choice.t self.old.coefficients.q (self.old.place + (if result then 1 else 0)) self.new }
     {
         if !next_visit(&mut self.choice, &mut self.coefficients) {

@@ -1,12 +1,12 @@
 -- The step of the visit is a step of the counter.
 use Rattle.std.proofs.Common.{arith}
-use Rattle.choices.proofs.Counters.{counter_below, stepped_kept, stepped_below, stepped_at, ended_below, ended_at}
+use Rattle.choices.proofs.Counters.{counter_below, stepped_kept, stepped_below, stepped_last, stepped_at, ended_below, ended_last, ended_at}
 use Rattle.choices.proofs.visit_counter.VisitCounter.step.Goals as goal
 
 pub returns-then-not-next_visit : goal.returns-then-not-next_visit
 returns-then-not-next_visit c =
     let over = c.if-not-next_visit.ensures in
-    rw (← c.self.view_is) record { value = ended_below _ c.self.invariant _ _ over.same over.value; after = ended_at _ c.self.invariant _ _ over.same over.value }
+    rw (← c.self.view_is) record { value = ended_below _ c.self.invariant _ _ over.same over.value; last = ended_last _ c.self.invariant _ _ over.same over.value; after = ended_at _ c.self.invariant _ _ over.same over.value }
 
 pub overflow_add-self : goal.overflow_add-self
 overflow_add-self c = omega (arith, counter_below _ c.self.invariant, c.self.ranges)
@@ -17,4 +17,4 @@ invariant_of-self-2 c = stepped_kept _ c.self.invariant _ _ c.if-not-next_visit.
 pub returns : goal.returns
 returns c =
     let next = c.if-not-next_visit.ensures in
-    rw (← c.self.view_is) record { value = stepped_below _ c.self.invariant _ _ next.same next.value; after = stepped_at _ c.self.invariant _ _ next.same next.value }
+    rw (← c.self.view_is) record { value = stepped_below _ c.self.invariant _ _ next.same next.value; last = stepped_last _ c.self.invariant _ _ next.same next.value; after = stepped_at _ c.self.invariant _ _ next.same next.value }
