@@ -1,4 +1,4 @@
-// The step from a choice of rows to the next.
+// The step from a choice of rows to the next. That a place is below the number of rows is asked of each place alone: no type says it more plainly.
 ghost use Rattle.std.specs.Prelude.{◌≡◌, ◌+◌, ◌<◌, ◌≤◌, true, length, MatchOption, slice_index, slice_index_or};
 ghost use Rattle.choices.specs.Moves.{goes_up, at_end, AllAtEnd, FirstMovable, raised, lowered, is_choice, Steps};
 ghost use Rattle.choices.specs.Choosing.{OneExchanged};
@@ -58,7 +58,7 @@ fn lower_row(rows: &mut [usize], place: usize)
     rows[place] = row - 1;
 }
 
-// The step to the next choice; false, and nothing changes, at the last.
+// The step to the next choice; false, and nothing changes, at the last. To stand at the last is no error, so the answer is a bool.
 pub(crate) fn step_rows(rows: &mut [usize], k: usize) -> bool
     requires { (k ≤ 32) × (is_choice k (length rows.old) rows.old ≡ true) }
     ensures value { Steps k (length rows.old) result rows.old rows.new }

@@ -24,7 +24,7 @@ fn turn_at(codes: &mut [u8], place: usize)
     codes[place + 1..].fill(1);
 }
 
-// The step to the next coefficients; false, and nothing changes, at the last.
+// The step to the next coefficients; false, and nothing changes, at the last. To stand at the last is no error, so the answer is a bool.
 pub(crate) fn step_codes(codes: &mut [u8], q: u8) -> bool
     requires { (2 ≤ q) × (listed (coefficient_lists q (length codes.old)) codes.old ≡ true) }
     ensures value { Steps (coefficient_lists q (length codes.old)) result codes.old codes.new }

@@ -37,7 +37,7 @@ impl Model for VisitCounter {
     ghost invariant = { λ v. (v.choice.t ≡ v.coefficients.t) × (v.size ≡ level_size v.choice.k v.choice.t v.coefficients.q) × (is_visit v.choice.k v.choice.t v.coefficients.q v.place (take v.choice.t v.choice.rows) (take v.coefficients.t v.coefficients.codes) ≡ true) × (v.choice.k ≤ 32) × (2 ≤ v.coefficients.q) };
 }
 
-// The step to the next visit: the next coefficients, or the next choice with the first ones; false, and nothing changes, at the last.
+// The step to the next visit: the next coefficients, or the next choice with the first ones; false, and nothing changes, at the last. To stand at the last is no error, so the answer is a bool.
 fn next_visit(choice: &mut Choice, coefficients: &mut Coefficients) -> bool
     requires { choice.old.t ≡ coefficients.old.t }
     ensures value { Steps (level_visits choice.old.k choice.old.t coefficients.old.q) result (chosen choice.old, codes_of coefficients.old) (chosen choice.new, codes_of coefficients.new) }

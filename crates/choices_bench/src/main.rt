@@ -11,7 +11,7 @@ trait Walk {
     // A number of the place.
     fn number(&self) -> u64;
 
-    // The step to the next place; false at the last.
+    // The step to the next place; false at the last: the answer of `step`, which it is.
     fn advance(&mut self) -> bool;
 }
 
@@ -42,6 +42,7 @@ impl Walk for VisitCounter {
 // Goes on by up to `most` steps. It tells how many were taken, and the sum of the numbers of the places at which one was tried.
 fn run<W: Walk>(walk: &mut W, most: u64) -> (u64, u64) {
     let mut sum: u64 = 0;
+    // The number of steps is answered.
     for step in 0..most {
         sum = sum.wrapping_add(walk.number());
         if !walk.advance() {
@@ -69,7 +70,7 @@ fn report<W: Walk>(
     Ok(())
 }
 
-// All of R(k, t), timed.
+// All of R(k, t), timed. What differs from the visits is the walk and its name; the rest is one function.
 fn report_choices(rt: &HostRuntime, k: usize, t: usize) -> anyhow::Result<()> {
     let mut choice = Choice::first(k, t).context("no such choices")?;
     let name = format!(in rt.alloc(); "R({k}, {t})")?;

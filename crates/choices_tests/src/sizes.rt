@@ -11,7 +11,7 @@ fn choices_of_rows(rt: HostRuntime) {
     assert_eq!(rt; binomial(33, 1), None);
 }
 
-// The number of visits of level t of k rows over q codes.
+// The number of visits of level t of k rows over q codes, to be asked for in a line.
 fn size(k: usize, t: usize, q: u8) -> Option<u64> {
     Level { k, t, q }.size()
 }

@@ -106,7 +106,7 @@ pub(crate) fn header_values(words: &HeaderWords<'_>, line: usize) -> Result<Head
         .ok_or(TextRefusal::OutsideLimits { line })
 }
 
-// The number that a word of a line writes.
+// The number that a word of a line writes; its error has the line and the column, which `number` does not know.
 fn number_in(word: Word<'_>, line: usize) -> Result<usize, TextRefusal>
     ensures value { result ≡ ok_or (number_of word.entry.bytes.now) (BadNumber line word.entry.column) }
 {
@@ -116,7 +116,7 @@ fn number_in(word: Word<'_>, line: usize) -> Result<usize, TextRefusal>
     })
 }
 
-// The field that a word of a line names.
+// The field that a word of a line names; its error has the line and the column.
 fn field_in(word: Word<'_>, line: usize) -> Result<FieldName, TextRefusal>
     ensures value { result ≡ ok_or (field_named word.entry.bytes.now) (UnknownField line word.entry.column) }
 {
@@ -126,7 +126,7 @@ fn field_in(word: Word<'_>, line: usize) -> Result<FieldName, TextRefusal>
     })
 }
 
-// The symbol weight that a word of a line names beside a field.
+// The symbol weight that a word of a line names beside a field; its error has the line and the column.
 fn weight_in(word: Word<'_>, field: FieldName, line: usize) -> Result<WeightName, TextRefusal>
     ensures value { result ≡ ok_or (weight_named word.entry.bytes.now field) (UnknownWeight line word.entry.column) }
 {

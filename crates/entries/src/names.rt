@@ -114,6 +114,7 @@ impl WeightName {
     }
 }
 
+// Fields and weights have each their own list of words, of their own type.
 impl TryFrom<&[u8]> for FieldName {
     type Error = UnknownName;
 

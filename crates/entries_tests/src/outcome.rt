@@ -26,6 +26,7 @@ impl Stop {
 pub fn outcome(text: &[u8]) -> Result<usize, Stop> {
     let mut codes = [0; MOST_CODES];
     let mut reader = EntryReader::new(text);
+    // The number of entries read is part of the answer.
     for entries in 0..60_000 {
         let header = reader
             .next_entry(&mut codes)

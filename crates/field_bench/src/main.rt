@@ -18,6 +18,7 @@ fn add_row<F: Field>(field: &F, row: &[u8; 64], word: &mut [u8; 64]) {
 // A row to begin with.
 fn first_row() -> [u8; 64] {
     let mut row = [0u8; 64];
+    // The symbols follow from their places.
     for (i, code) in row.iter_mut().enumerate() {
         *code = if i % 3 == 0 { 1 } else { (i & 1) as u8 };
     }
@@ -29,7 +30,9 @@ fn run<F: Field>(field: &F, weight: &Hamming, factor: u8) -> Result<u64, Lengths
     let mut row = first_row();
     let mut word = [0u8; 64];
     let mut total: u64 = 0;
+    // The number of the turn says which symbol changes after it.
     for turn in 0..TURNS {
+        // The two are different measurements.
         if factor == 1 {
             add_row(field, &row, &mut word);
         } else {

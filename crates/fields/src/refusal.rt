@@ -36,6 +36,7 @@ impl FieldRefusal {
     }
 }
 
+// The words of every numbered refusal; each crate says them of its own enum, since none of these crates stands on another for them.
 impl fmt::Display for FieldRefusal {
     ghost use Rattle.fields.specs.Refusals.{text};
 

@@ -19,7 +19,7 @@ pub trait SymbolWeight {
     ghost lawful: { (w : Self) → WeightLaws (meaning w) };
 }
 
-// The weight of a word: the sum of the weights of its symbols, which stops at the largest number of 32 bits; words of up to 64 symbols never come near it.
+// The weight of a word: the sum of the weights of its symbols, which stops at the largest number of 32 bits; words of up to 64 symbols never come near it. One function over a closure for this and for the weight of a multiple was tried, and the check proved neither use.
 pub fn word_weight<W: SymbolWeight>(weight: &W, word: &[u8]) -> u32
     ensures value { result ≡ min (weigh (W.SymbolWeight.meaning weight.now) word.now) (2 ^ 32 - 1) }
     ensures exact { length word.now ≤ 64 → result ≡ weigh (W.SymbolWeight.meaning weight.now) word.now }

@@ -1,4 +1,4 @@
-// What a matrix is refused for.
+// What a matrix is refused for. The codes come with k and n, and not as a matrix of known length, since k and n are refused before the length.
 ghost use Rattle.std.specs.Prelude.{◌≡◌, ◌*◌, ◌≤◌, length, position, nat_le, Some, None, IfOk, OnOk, MatchResult};
 ghost use Rattle.forms.specs.Refusals.{first_no_code, first_dependent_row, matrix_fault, forms_fault, ScratchAfter};
 
@@ -14,7 +14,7 @@ fn first_from(codes: &[u8], q: u8) -> Option<usize>
     codes.iter().position(|c| *c >= q)
 }
 
-// The index of the first number that is no code of a field of order q.
+// The index of the first number that is no code of a field of order q. The chain above is found to be `position` only where the clause says so; this clause says it of the definition.
 fn first_no_code(codes: &[u8], q: u8) -> Option<usize>
     ensures value { result ≡ first_no_code q codes.now }
 {

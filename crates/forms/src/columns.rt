@@ -1,4 +1,4 @@
-// The order in which a form goes through the columns, and the marks of those that are used.
+// The order in which a form goes through the columns, and the marks of those that are used. The marks are one array that callers lend, and no fact is said of it twice, so it has no type of its own; columns in order stand in an array of fixed size, as nothing is allocated.
 ghost use Rattle.std.specs.Prelude.{◌≡◌, ℕ, ◌+◌, ◌<◌, ◌≤◌, Bool, not, ◌&&◌, ◌++◌, length, take, if◌then◌else◌, filter};
 ghost use Rattle.std.specs.List.{range_with_len, AllByRecursion};
 ghost use Rattle.theory.specs.Codes.{is_zero};
@@ -22,7 +22,7 @@ fn is_wanted(marks: &[bool; 64], c: usize, wanted: bool) -> bool
     is_marked(marks, c) == wanted
 }
 
-// Puts the columns below n that are marked, or not, as asked, into the order from a place on; the place behind them.
+// Puts the columns below n that are marked, or not, as asked, into the order from a place on; the place behind them, which is why it is counted. Two passes, the same loop: what is wanted is a bool, since a test lent as a closure would need a clause for each.
 fn put_columns(
     marks: &[bool; 64],
     n: usize,

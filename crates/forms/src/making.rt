@@ -1,4 +1,4 @@
-// The forms of a generator matrix.
+// The forms of a generator matrix. Positions and rows stand in arrays of fixed size, and forms in places of the caller, as nothing is allocated.
 ghost use Rattle.std.specs.Prelude.{◌≡◌, ℕ, ◌*◌, ◌<◌, ◌≤◌, List, [], ◌++◌, map, length, take, drop};
 ghost use Rattle.std.specs.List.{AllByRecursion};
 ghost use Rattle.theory.specs.Forms.{pick, form as form_told, forms as forms_told};

@@ -1,4 +1,4 @@
-// Matrices over codes of the caller: k rows of n codes, one row after the other.
+// Matrices over codes of the caller: k rows of n codes, one row after the other. Two types, as codes are lent to be read or to be changed. That n is at most 64 is asked where a row is held, and is no fact of the types: rows of any length can be swapped and scaled.
 ghost use Rattle.std.specs.Prelude.{◌≡◌, ◌*◌, length};
 
 // A matrix that is read.

@@ -1,4 +1,4 @@
-// The steps of an elimination for any caller: a step that does not fit its matrix is refused and changes nothing.
+// The steps of an elimination for any caller: a step that does not fit its matrix is refused and changes nothing. Callers hold codes, k and n; to make a matrix of them first would be one more call that can refuse.
 ghost use Rattle.std.specs.Prelude.{◌≡◌, ℕ, ◌<◌, Some, None, MatchResult, OnOk, ◌≢◌};
 ghost use Rattle.theory.specs.Meanings.{FieldMeaning, FieldLaws};
 ghost use Rattle.theory.specs.Facts.{Matrix};

@@ -40,6 +40,7 @@ impl FormsRefusal {
     }
 }
 
+// The words of every numbered refusal; each crate says them of its own enum, since none of these crates stands on another for them.
 impl fmt::Display for FormsRefusal {
     ghost use Rattle.forms.specs.Refusals.{text};
 

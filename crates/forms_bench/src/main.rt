@@ -13,6 +13,7 @@ const TURNS: u32 = 100;
 fn matrix(order: u8) -> [u8; 2048] {
     let mut codes = [0u8; 2048];
     let mut seed: u32 = 1;
+    // Row and column follow from the place.
     for (i, code) in codes.iter_mut().enumerate() {
         let row = i / 64;
         let column = i % 64;

@@ -26,7 +26,7 @@ fn main(rt: HostRuntime) -> anyhow::Result<()> {
     Ok(())
 }
 
-// Takes the field that an entry names.
+// Takes the field that an entry names. Each arm takes another type. The other program that reads entries has the same lines: one function for both would take a closure that is generic in the field.
 fn with_field(rt: &HostRuntime, number: usize, header: Header) -> anyhow::Result<()> {
     match header.field {
         FieldName::Gf4 => with_weight(rt, number, header, &Gf4),
@@ -34,7 +34,7 @@ fn with_field(rt: &HostRuntime, number: usize, header: Header) -> anyhow::Result
     }
 }
 
-// Takes the symbol weight that an entry names, of the field's order.
+// Takes the symbol weight that an entry names, of the field's order. Each arm takes another type.
 fn with_weight<F: Field>(
     rt: &HostRuntime,
     number: usize,

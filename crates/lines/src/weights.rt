@@ -23,7 +23,7 @@ impl LineWeights {
     }
 }
 
-// The weight of a multiple of a word, which stops at the largest number of 32 bits.
+// The weight of a multiple of a word, which stops at the largest number of 32 bits. One function over a closure for this and `word_weight` was tried, and the check proved neither use.
 fn multiple_weight<F: Field, W: SymbolWeight>(field: &F, weight: &W, factor: u8, word: &[u8]) -> u32
     ensures value { result ≡ weighed (W.SymbolWeight.meaning weight.now) (times (F.Field.meaning field.now) factor word.now) }
 {
@@ -40,6 +40,7 @@ pub fn line_weights<F: Field, W: SymbolWeight>(field: &F, weight: &W, word: &[u8
 {
     let mut weights = [0; 15];
     let mut least = word_weight(weight, word);
+    // The factor is a code, not an index alone.
     for factor in 1..field.order() {
         let next = multiple_weight(field, weight, factor, word);
         weights[usize::from(factor - 1)] = next;

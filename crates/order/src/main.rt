@@ -22,6 +22,7 @@ enum OrderError {
 
 fn main(rt: HostRuntime) -> anyhow::Result<()> {
     let words: Vec<String> = env::args(&rt)?.skip(1).collect(rt.alloc())?;
+    // An empty line stands before all but the first.
     for (i, request) in words.split(|word| word.as_str() == "and").enumerate() {
         if i > 0 {
             println!(rt; "")?;
@@ -60,7 +61,7 @@ fn print_choices(rt: &HostRuntime, k: usize, t: usize) -> Result<(), OrderError>
     Ok(())
 }
 
-// The visits of a level, rows and coefficients a line.
+// The visits of a level, rows and coefficients a line. K, T and Q come from three words, so they become a level here.
 fn print_visits(rt: &HostRuntime, k: usize, t: usize, q: usize) -> Result<(), OrderError> {
     let q = u8::try_from(q).map_err(|_| OrderError::Level)?;
     let mut counter = VisitCounter::first(Level { k, t, q }).ok_or(OrderError::Level)?;
@@ -76,6 +77,7 @@ fn print_visits(rt: &HostRuntime, k: usize, t: usize, q: usize) -> Result<(), Or
 
 // Numbers parted by single spaces.
 fn print_numbers<T: Display>(rt: &HostRuntime, numbers: &[T]) -> io::Result<()> {
+    // A space stands before all but the first.
     for (i, number) in numbers.iter().enumerate() {
         if i > 0 {
             print!(rt; " ")?;

@@ -66,6 +66,7 @@ impl fmt::Display for RollRefusal {
 
 impl Error for RollRefusal {}
 
+// The words of every numbered refusal; each crate says them of its own enum, since none of these crates stands on another for them.
 impl fmt::Display for TrailRefusal {
     ghost output = { λ refusal. Some (text refusal) };
 

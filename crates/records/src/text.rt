@@ -14,11 +14,12 @@ pub enum ParseRecordError {
     Number(ParseIntError),
 }
 
+// Written by hand, so that the library needs no other crate.
 impl fmt::Display for ParseRecordError {
     fn fmt<W: fmt::Write>(&self, f: &mut fmt::Formatter<W>) -> fmt::Result {
         match self {
             ParseRecordError::MissingComma => write!(f, "a record is written as FORM,VISITS,LEVEL"),
-            ParseRecordError::Number(error) => write!(f, "{error}"),
+            ParseRecordError::Number(fault) => write!(f, "{fault}"),
         }
     }
 }

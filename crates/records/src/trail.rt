@@ -77,6 +77,7 @@ fn add_records(
     ensures added { OnOk result (records roll.new ≡ map record_at parts.now) }
     ensures same { SameSlots roll.old roll.new }
 {
+    // The number of a record is the place of its refusal.
     for (at, part) in parts.iter().enumerate() {
         let item = TrailRecord::from(*part);
         if !item.in_range() {
@@ -117,6 +118,7 @@ pub fn read_trail(bytes: &[u8], roll: &mut Roll<'_, TrailRecord>) -> Result<(), 
         return Err(TrailRefusal::PartialRecord);
     }
     let read = add_records(parts, roll);
+    // Whatever the refusal is, it is answered and the roll emptied; a match would name it only to hand it on.
     if read.is_err() {
         roll.clear();
     }

@@ -34,7 +34,7 @@ fn main(rt: HostRuntime) -> anyhow::Result<()> {
     Ok(())
 }
 
-// Takes the field that an entry names.
+// Takes the field that an entry names. Each arm takes another type. The other program that reads entries has the same lines: one function for both would take a closure that is generic in the field.
 fn with_field(rt: &HostRuntime, header: Header, codes: &[u8]) -> anyhow::Result<()> {
     match header.field {
         FieldName::Gf4 => print_forms(rt, header, codes, &Gf4),
@@ -57,6 +57,7 @@ fn print_forms<F: Field>(
     let mut forms = [Form::EMPTY; 8];
     match make_forms(field, matrix, k, n, &mut scratch, &mut forms) {
         Ok(count) => {
+            // A form is printed with its number.
             for (j, form) in forms.iter().take(count).enumerate() {
                 print_form(rt, j, form, k, n)?;
             }
@@ -69,6 +70,7 @@ fn print_forms<F: Field>(
 // A form by its number, rank and positions, then its rows.
 fn print_form(rt: &HostRuntime, j: usize, form: &Form, k: usize, n: usize) -> io::Result<()> {
     print!(rt; "form {j} rank {} positions ", form.rank)?;
+    // A comma stands before all but the first.
     for (i, p) in form.positions.iter().take(k).enumerate() {
         if i > 0 {
             print!(rt; ",")?;

@@ -82,7 +82,7 @@ impl<'a> Request<'a> {
     }
 }
 
-// A number of slots or bytes.
+// A number of slots or bytes; `parse` alone has no upper limit.
 fn number_of(word: &str) -> Result<usize, Fault>
     ensures bound { IfOk result (λ n. n ≤ 65536) }
 {
@@ -94,7 +94,7 @@ fn number_of(word: &str) -> Result<usize, Fault>
     }
 }
 
-// The bytes that pairs of hexadecimal digits write, in lower case, `-` for none.
+// The bytes that pairs of hexadecimal digits write, in lower case, `-` for none; `decode` alone takes capitals, and nothing for none.
 fn bytes_of(alloc: Global, hex: &str) -> Result<Vec<u8>, Fault> {
     if hex == "-" {
         return Ok(Vec::new(alloc));

@@ -151,6 +151,7 @@ impl<'t> PartReader<'t> {
         if self.text.len() > MOST_BYTES {
             return Err(TextRefusal::TooLong);
         }
+        // Each case has a part of its own to read, so it stays a match.
         match self.due {
             Due::Header => self.header_part(),
             Due::Row { header, after } => self.row_part(header, after),

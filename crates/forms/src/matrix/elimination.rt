@@ -37,7 +37,7 @@ impl<'a> MatrixMut<'a> {
         true
     }
 
-    // Goes through columns in the order given and takes each that it can, up to as many as there are rows; the number taken.
+    // Goes through columns in the order given and takes each that it can, up to as many as there are rows; the number taken, which is why it is counted. The positions have a fixed place of the caller's, as nothing is allocated.
     pub(crate) fn take_columns<F: Field>(
         &mut self,
         field: &F,

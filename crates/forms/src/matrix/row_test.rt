@@ -15,6 +15,7 @@ impl<'a> MatrixMut<'a> {
         ensures value { FirstDependentOr (F.Field.meaning field.now) self.old.n (held_rows self.old) result }
         ensures same { SameShape self.old self.new }
     {
+        // The number of the row is the answer.
         for i in 0..self.k {
             let Some(column) = self.view().leading_column(i) else {
                 return Some(i);
