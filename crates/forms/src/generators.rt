@@ -6,7 +6,8 @@ ghost use Rattle.forms.specs.Matrices.{rows_of};
 ghost use Rattle.forms.specs.ColumnMarks.{marked_columns};
 ghost use Rattle.forms.specs.FormRecords.{record_of};
 ghost use Rattle.forms.specs.Refusals.{first_dependent_row, matrix_fault, forms_fault, told, ScratchAfter};
-ghost use Rattle.forms.specs.Systematic.{FormsAreSystematic};
+ghost use Rattle.forms.specs.Elimination.{SameCodewords};
+ghost use Rattle.forms.specs.Systematic.{FormsAreSystematic, FormIsSystematic, FormsGenerate};
 
 use crate::checks::{check_matrix, check_rows};
 use crate::form::Form;
@@ -41,6 +42,8 @@ pub fn make_form<F: Field>(
     ensures value { result ≡ told (forms_fault (F.Field.meaning field.now) k n codes.now (length scratch.old)) tt }
     ensures after { form.new ≡ (if is_some (forms_fault (F.Field.meaning field.now) k n codes.now (length scratch.old)) then form.old else record_of (form_told (F.Field.meaning field.now) n (rows_of k n codes.now) (marked_columns n used.now))) }
     ensures scratch { ScratchAfter k n (matrix_fault (F.Field.meaning field.now) k n codes.now (length scratch.old)) scratch.old scratch.new }
+    ensures systematic { OnOk result (FormIsSystematic (F.Field.meaning field.now) n (rows_of k n codes.now) (marked_columns n used.now)) }
+    ensures generates { OnOk result (SameCodewords (F.Field.meaning field.now) n (rows_of k n codes.now) (form_told (F.Field.meaning field.now) n (rows_of k n codes.now) (marked_columns n used.now)).rows) }
 {
     *form = check_rows(field, codes, k, n, scratch)?.form(used);
     Ok(())
@@ -59,6 +62,7 @@ pub fn make_forms<F: Field>(
     ensures after { forms.new ≡ (if is_some (forms_fault (F.Field.meaning field.now) k n codes.now (length scratch.old)) then forms.old else map record_of (forms_told (F.Field.meaning field.now) n (rows_of k n codes.now)) ++ drop (length (forms_told (F.Field.meaning field.now) n (rows_of k n codes.now))) forms.old) }
     ensures scratch { ScratchAfter k n (matrix_fault (F.Field.meaning field.now) k n codes.now (length scratch.old)) scratch.old scratch.new }
     ensures systematic { OnOk result (FormsAreSystematic (F.Field.meaning field.now) n (rows_of k n codes.now)) }
+    ensures generates { OnOk result (FormsGenerate (F.Field.meaning field.now) n (rows_of k n codes.now)) }
 {
     Ok(check_rows(field, codes, k, n, scratch)?.forms(forms))
 }

@@ -3,9 +3,9 @@ ghost use Rattle.std.specs.Prelude.{◌≡◌, ℕ, ◌*◌, ◌<◌, ◌≤◌,
 ghost use Rattle.std.specs.List.{AllByRecursion};
 ghost use Rattle.theory.specs.Forms.{pick, form as form_told, forms as forms_told};
 ghost use Rattle.forms.specs.Matrices.{rows_of};
-ghost use Rattle.forms.specs.Elimination.{Eliminated};
+ghost use Rattle.forms.specs.Elimination.{Eliminated, SameCodewords};
 ghost use Rattle.forms.specs.ColumnMarks.{MarksUsed, marked_columns};
-ghost use Rattle.forms.specs.Systematic.{FormsAreSystematic};
+ghost use Rattle.forms.specs.Systematic.{FormsAreSystematic, FormIsSystematic, FormsGenerate};
 ghost use Rattle.forms.specs.FormRecords.{record_of};
 ghost use Rattle.forms.specs.Shapes.{rows_in};
 
@@ -33,6 +33,8 @@ impl<'a, F: Field> GeneratorMatrix<'a, F> {
     pub(crate) fn form(&self, marks: &[bool; 64]) -> Form
         ensures value { (used : List ℕ) → MarksUsed self.now.rows.matrix.n marks.now used → result ≡ record_of (form_told (F.Field.meaning self.now.rows.field.now) self.now.rows.matrix.n (rows_in self.now.rows.matrix) used) }
         ensures marked { result ≡ record_of (form_told (F.Field.meaning self.now.rows.field.now) self.now.rows.matrix.n (rows_in self.now.rows.matrix) (marked_columns self.now.rows.matrix.n marks.now)) }
+        ensures systematic { FormIsSystematic (F.Field.meaning self.now.rows.field.now) self.now.rows.matrix.n (rows_in self.now.rows.matrix) (marked_columns self.now.rows.matrix.n marks.now) }
+        ensures generates { SameCodewords (F.Field.meaning self.now.rows.field.now) self.now.rows.matrix.n (rows_in self.now.rows.matrix) (form_told (F.Field.meaning self.now.rows.field.now) self.now.rows.matrix.n (rows_in self.now.rows.matrix) (marked_columns self.now.rows.matrix.n marks.now)).rows }
     {
         let MatrixView { k, n, .. } = self.rows.matrix;
         let order = order_columns(marks, n);
@@ -52,6 +54,7 @@ impl<'a, F: Field> GeneratorMatrix<'a, F> {
         ensures value { result ≡ length (forms_told (F.Field.meaning self.now.rows.field.now) self.now.rows.matrix.n (rows_in self.now.rows.matrix)) }
         ensures after { forms.new ≡ map record_of (forms_told (F.Field.meaning self.now.rows.field.now) self.now.rows.matrix.n (rows_in self.now.rows.matrix)) ++ drop result forms.old }
         ensures systematic { FormsAreSystematic (F.Field.meaning self.now.rows.field.now) self.now.rows.matrix.n (rows_in self.now.rows.matrix) }
+        ensures generates { FormsGenerate (F.Field.meaning self.now.rows.field.now) self.now.rows.matrix.n (rows_in self.now.rows.matrix) }
     {
         let matrix = self.rows.matrix;
         let mut marks = [false; 64];

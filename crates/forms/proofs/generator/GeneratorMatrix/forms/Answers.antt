@@ -2,7 +2,7 @@
 use Rattle.std.proofs.Common.{◌<◌, length, take, arith}
 use Rattle.forms.specs.Matrices.{rows_of}
 use Rattle.forms.proofs.RowLists.{length-rows}
-use Rattle.forms.proofs.SystematicForms.{are_systematic}
+use Rattle.forms.proofs.SystematicForms.{are_systematic, forms_generate}
 use Rattle.forms.proofs.FormsSoFar.{so_far_none, so_far_more, so_far_ended, next_positions, next_below}
 use Rattle.forms.proofs.generator.GeneratorMatrix.forms.Goals as goal
 
@@ -12,7 +12,7 @@ loop-j-init g c = so_far_none (g.F.Field.meaning c.args.self.now.rows.field.now)
 pub returns-then-not-has_open_column : goal.returns-then-not-has_open_column
 returns-then-not-has_open_column g c =
     let end = so_far_ended c.loop-j.invariant c.loop-j-test.true c.if-not-has_open_column.ensures.value in
-    record { value = end.0; after = end.1; systematic = are_systematic (g.met.F.Field.lawful c.args.self.now.rows.field.now) c.args.self.now.rows.coded c.args.self.now.independent }
+    record { value = end.0; after = end.1; systematic = are_systematic (g.met.F.Field.lawful c.args.self.now.rows.field.now) c.args.self.now.rows.coded c.args.self.now.independent; generates = forms_generate (g.met.F.Field.lawful c.args.self.now.rows.field.now) c.args.self.now.rows.coded c.args.self.now.independent }
 
 pub mark-requires : goal.mark-requires
 mark-requires g c =
@@ -36,3 +36,6 @@ loop-j-preserved g c =
 
 pub returns-clause-systematic : goal.returns-clause-systematic
 returns-clause-systematic g c = are_systematic (g.met.F.Field.lawful c.args.self.now.rows.field.now) c.args.self.now.rows.coded c.args.self.now.independent
+
+pub returns-clause-generates : goal.returns-clause-generates
+returns-clause-generates g c = forms_generate (g.met.F.Field.lawful c.args.self.now.rows.field.now) c.args.self.now.rows.coded c.args.self.now.independent
