@@ -1,10 +1,11 @@
 -- The text of a record: its three numbers, each written in decimal, with commas between them.
-use Rattle.std.specs.Prelude.{ℕ, ◌^◌, ◌<◌, ◌==◌, List, ◌++◌, Result, Contains, codes}
+use Rattle.std.specs.Prelude.{ℕ, ◌^◌, ◌<◌, ◌==◌, List, ◌++◌, Option, Some, None, Result, Contains, codes}
 use Rattle.std.specs.Fmt.{decimal}
 use Rattle.std.specs.List.{before_first, after_first}
 use Rattle.std.specs.Result.{OkIff}
 use Rattle.std.specs.Str.Parse.{IsNumeral, digits_value, without_leading_plus}
 use Rattle.records.specs.declared.text.ParseRecordError.{ParseRecordError}
+use Rattle.records.specs.declared.text.ParseRecordError.TheVariants.{MissingComma, Number}
 use Rattle.records.specs.declared.trail.TrailRecord.{TrailRecord}
 
 -- What is printed of a record.
@@ -45,3 +46,8 @@ text_record text = record { form = number_of (before text); visits = number_of (
 -- What reading a text as a record gives: its record, or an error where it is no such text.
 abbrev pub ReadsRecord : List ℕ → Result TrailRecord ParseRecordError → Type 0
 ReadsRecord text r = OkIff r (IsRecordText text) (text_record text)
+
+-- What is printed of a text that is no record; of a number that is none the library says no words.
+abbrev pub fault_text : ParseRecordError → Option (List ℕ)
+fault_text MissingComma = Some (codes "a record is written as FORM,VISITS,LEVEL")
+fault_text (Number e) = None

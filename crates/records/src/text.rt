@@ -16,6 +16,10 @@ pub enum ParseRecordError {
 
 // Written by hand, so that the library needs no other crate.
 impl fmt::Display for ParseRecordError {
+    ghost use Rattle.records.specs.Texts.{fault_text};
+
+    ghost output = { λ fault. fault_text fault };
+
     fn fmt<W: fmt::Write>(&self, f: &mut fmt::Formatter<W>) -> fmt::Result {
         match self {
             ParseRecordError::MissingComma => write!(f, "a record is written as FORM,VISITS,LEVEL"),
