@@ -1,10 +1,14 @@
 -- What `split_once` gives at a comma.
-use Rattle.std.proofs.Common.{◌≡◌, ℕ, ◌==◌, List, Contains, Option, Some, Bor, sym, subst, ap, ◌∙◌, arith}
+use Rattle.std.proofs.Common.{◌≡◌, ℕ, ◌==◌, List, Contains, Option, Some, None, Result, Ok, Err, Bor, sym, subst, ap, ◌∙◌, arith}
+use Rattle.std.specs.Option.{ok_or}
+use Rattle.std.proofs.lemmas.List.{get_or_default}
 use Rattle.std.proofs.lemmas.List.Sums.{passes_at_first}
 use Rattle.std.proofs.lemmas.Bool.Decides.{nat_tests}
-use Rattle.std.proofs.lemmas.Str.Pattern.{IsSplitOnceResult, split_once_first}
+use Rattle.std.proofs.lemmas.Str.Pattern.{IsSplitOnceResult, split_once_first, split_parts}
 use Rattle.records.specs.declared.trail.TrailRecord.{TrailRecord}
-use Rattle.records.specs.Texts.{comma, before, after, number_of, IsUnsigned, IsRecordText, text_record}
+use Rattle.records.specs.Texts.{comma, before, after, number_of, IsUnsigned, IsRecordText, HasCommas, FaultOf, text_record}
+use Rattle.records.specs.declared.text.ParseRecordError.{ParseRecordError}
+use Rattle.records.specs.declared.text.ParseRecordError.TheVariants.{MissingComma}
 
 pub record IsCut (text front back : List ℕ) : Type 0 where
   pub found : Contains text comma
@@ -40,3 +44,18 @@ module _ (text front rest mid back : List ℕ) (first : IsCut text front rest) (
         },
         cc,
       )
+
+  pub both_commas : HasCommas text
+  both_commas = (first.found, subst (λ (t : List ℕ). Contains t comma) (sym first.back_is) second.found)
+
+-- Where nothing is split off, there is no comma.
+no_comma : (text : List ℕ) → IsSplitOnceResult comma text None → Contains text comma → ⊥
+no_comma text split h = split_parts comma text None split (omega arith) h.0 h.1 (get_or_default text h.0 0 comma h.1 ∙ h.2)
+
+-- Where the second comma is missing, the text is no record, and that is its fault.
+pub second_missing : (text front rest : List ℕ) → IsCut text front rest → (r : Option (Bor (List ℕ) × Bor (List ℕ))) → IsSplitOnceResult comma rest r → (f : ParseRecordError) → ◌≡◌ {A = Result (Bor (List ℕ) × Bor (List ℕ)) ParseRecordError} (Err f) (ok_or r MissingComma) → (IsRecordText text → ⊥) × FaultOf text f
+second_missing text front rest first None split f e =
+    let missing : HasCommas text → ⊥ = λ h. no_comma rest split (subst (λ (t : List ℕ). Contains t comma) first.back_is h.1) in
+    let is : f ≡ MissingComma = ap (λ r. elim r as (λ _. ParseRecordError) [ Ok x ↦ MissingComma | Err g ↦ g ]) e in
+    ((λ r. missing (r.first_comma, r.second_comma)), subst (FaultOf text) (sym is) missing)
+second_missing text front rest first (Some x) split f e = absurd (subst (λ r. elim r as (λ _. Type 0) [ Ok y ↦ ⊥ | Err g ↦ Unit {0} ]) e tt)

@@ -1,5 +1,5 @@
 -- The text of a record: its three numbers, each written in decimal, with commas between them.
-use Rattle.std.specs.Prelude.{ℕ, ◌^◌, ◌<◌, ◌==◌, List, ◌++◌, Option, Some, None, Result, Contains, codes}
+use Rattle.std.specs.Prelude.{ℕ, ◌^◌, ◌<◌, ◌==◌, List, ◌++◌, Option, Some, None, Result, Contains, IfErr, codes}
 use Rattle.std.specs.Fmt.{decimal}
 use Rattle.std.specs.List.{before_first, after_first}
 use Rattle.std.specs.Result.{OkIff}
@@ -43,9 +43,18 @@ pub record IsRecordText (text : List ℕ) : Type 0 where
 abbrev pub text_record : List ℕ → TrailRecord
 text_record text = record { form = number_of (before text); visits = number_of (before (after text)); level = number_of (after (after text)) }
 
--- What reading a text as a record gives: its record, or an error where it is no such text.
+-- Both commas stand in the text.
+abbrev pub HasCommas : List ℕ → Type 0
+HasCommas text = Contains text comma × Contains (after text) comma
+
+-- A comma is missing, or both are there and a number is none that fits.
+abbrev pub FaultOf : List ℕ → ParseRecordError → Type 0
+FaultOf text MissingComma = HasCommas text → ⊥
+FaultOf text (Number e) = HasCommas text
+
+-- What reading a text as a record gives: its record, or the fault where it is no such text.
 abbrev pub ReadsRecord : List ℕ → Result TrailRecord ParseRecordError → Type 0
-ReadsRecord text r = OkIff r (IsRecordText text) (text_record text)
+ReadsRecord text r = OkIff r (IsRecordText text) (text_record text) × IfErr r (FaultOf text)
 
 -- What is printed of a text that is no record; of a number that is none the library says no words.
 abbrev pub fault_text : ParseRecordError → Option (List ℕ)
