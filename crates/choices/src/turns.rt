@@ -9,10 +9,7 @@ fn place_to_turn(codes: &[u8], q: u8) -> Option<usize>
     requires { 2 ≤ q }
     ensures value { MatchOption result (FullBehind q codes.now 0) (λ p. LastToTurn q codes.now p) }
 {
-    codes
-        .iter()
-        .rposition(|code| *code != q - 1)
-        .filter(|place| *place > 0)
+    (1..codes.len()).rev().find(|place| codes[*place] != q - 1)
 }
 
 // The code at a place goes up by one, and those behind it start over at 1.
