@@ -7,4 +7,5 @@ pub mod Choosing
 pub mod Turns
 pub mod Coefficients
 pub mod LevelVisits
+pub mod Kept
 pub mod Levels

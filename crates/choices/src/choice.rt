@@ -1,6 +1,7 @@
 // A choice of rows at its place in revolving-door order.
-ghost use Rattle.std.specs.Prelude.{◌≡◌, ◌≤◌, true};
+ghost use Rattle.std.specs.Prelude.{◌≡◌, ◌≤◌, true, IfSome};
 ghost use Rattle.choices.specs.Moves.{is_choice, Steps};
+ghost use Rattle.choices.specs.Kept.{KeptChoice};
 ghost use Rattle.choices.specs.Choosing.{chosen, FirstOr, AllChoices, OneExchanged};
 
 use crate::steps::step_rows;
@@ -40,6 +41,7 @@ impl Choice {
     pub fn first(k: usize, t: usize) -> Option<Choice>
         ensures value { FirstOr k t result }
         ensures all { AllChoices k t }
+        ensures kept { IfSome result KeptChoice }
     {
         if k > 32 || t > k {
             return None;
@@ -71,6 +73,7 @@ impl Choice {
         ensures value { Steps self.old.k self.old.t result (chosen self.old) (chosen self.new) }
         ensures exchange { result ≡ true → OneExchanged (chosen self.old) (chosen self.new) }
         ensures same { (self.new.k ≡ self.old.k) × (self.new.t ≡ self.old.t) }
+        ensures kept { KeptChoice self.new }
     {
         let k = self.k;
         step_rows(&mut self.rows[..self.t], k)

@@ -1,8 +1,9 @@
 // The coefficients of the rows of a choice, at their place in order.
-ghost use Rattle.std.specs.Prelude.{◌≡◌, ◌≤◌, true};
+ghost use Rattle.std.specs.Prelude.{◌≡◌, ◌≤◌, true, IfSome};
 ghost use Rattle.theory.specs.Visits.{coefficients as coefficient_lists};
 ghost use Rattle.choices.specs.Places.{listed, StandsAt, Steps};
 ghost use Rattle.choices.specs.Coefficients.{codes_of, FirstListOr, AllLists};
+ghost use Rattle.choices.specs.Kept.{KeptCoefficients};
 
 use crate::turns::step_codes;
 use std::marker::Model;
@@ -35,6 +36,7 @@ impl Coefficients {
     pub fn first(q: u8, t: usize) -> Option<Coefficients>
         ensures value { FirstListOr q t result }
         ensures all { AllLists q t }
+        ensures kept { IfSome result KeptCoefficients }
     {
         if q < 2 || t == 0 || t > 32 {
             return None;
@@ -58,6 +60,7 @@ impl Coefficients {
     pub fn step(&mut self) -> bool
         ensures value { Steps (coefficient_lists self.old.q self.old.t) result (codes_of self.old) (codes_of self.new) }
         ensures same { (self.new.q ≡ self.old.q) × (self.new.t ≡ self.old.t) }
+        ensures kept { KeptCoefficients self.new }
     {
         let q = self.q;
         step_codes(&mut self.codes[..self.t], q)
@@ -67,6 +70,7 @@ impl Coefficients {
     pub fn restart(&mut self)
         ensures after { StandsAt (coefficient_lists self.old.q self.old.t) 0 (codes_of self.new) }
         ensures same { (self.new.q ≡ self.old.q) × (self.new.t ≡ self.old.t) }
+        ensures kept { KeptCoefficients self.new }
     {
         self.codes = [1; 32];
     }

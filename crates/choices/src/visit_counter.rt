@@ -1,5 +1,5 @@
 // A visit counter: a place in a level, with the rows and the coefficients of the visit there.
-ghost use Rattle.std.specs.Prelude.{◌≡◌, ◌+◌, ◌-◌, ◌<◌, ◌≤◌, true, if◌then◌else◌, length, nat_lt};
+ghost use Rattle.std.specs.Prelude.{◌≡◌, ◌+◌, ◌-◌, ◌<◌, ◌≤◌, true, if◌then◌else◌, length, nat_lt, IfSome};
 ghost use Rattle.theory.specs.Visits.{coefficients as coefficient_lists};
 ghost use Rattle.choices.specs.Moves.{is_choice};
 ghost use Rattle.choices.specs.Places.{listed, StandsAt, Steps};
@@ -7,6 +7,7 @@ ghost use Rattle.choices.specs.Choosing.{chosen};
 ghost use Rattle.choices.specs.Coefficients.{codes_of};
 ghost use Rattle.choices.specs.LevelVisits.{level_visits};
 ghost use Rattle.choices.specs.Levels.{visit_of, size_of, visits_of, CounterAt, CounterOr, IsVisit};
+ghost use Rattle.choices.specs.Kept.{KeptChoice, KeptCoefficients, KeptVisit};
 
 use crate::choice::Choice;
 use crate::coefficients::Coefficients;
@@ -23,10 +24,11 @@ pub struct VisitCounter {
 }
 
 impl Model for VisitCounter {
-    ghost use Rattle.std.specs.Prelude.{◌≡◌, ◌≤◌, true, take};
+    ghost use Rattle.std.specs.Prelude.{◌≡◌, true, take};
     ghost use Rattle.choices.specs.Held.{HeldVisit};
     ghost use Rattle.choices.specs.Sizes.{level_size};
     ghost use Rattle.choices.specs.LevelVisits.{is_visit};
+    ghost use Rattle.choices.specs.Kept.{KeptChoice, KeptCoefficients};
 
     ghost Value = { HeldVisit };
 
@@ -34,7 +36,7 @@ impl Model for VisitCounter {
 
     ghost inverse = { λ v. record { choice = v.choice; coefficients = v.coefficients; place = v.place; size = v.size } };
 
-    ghost invariant = { λ v. (v.choice.t ≡ v.coefficients.t) × (v.size ≡ level_size v.choice.k v.choice.t v.coefficients.q) × (is_visit v.choice.k v.choice.t v.coefficients.q v.place (take v.choice.t v.choice.rows) (take v.coefficients.t v.coefficients.codes) ≡ true) × (v.choice.k ≤ 32) × (2 ≤ v.coefficients.q) };
+    ghost invariant = { λ v. KeptChoice v.choice × KeptCoefficients v.coefficients × (v.choice.t ≡ v.coefficients.t) × (v.size ≡ level_size v.choice.k v.choice.t v.coefficients.q) × (is_visit v.choice.k v.choice.t v.coefficients.q v.place (take v.choice.t v.choice.rows) (take v.coefficients.t v.coefficients.codes) ≡ true) };
 }
 
 // The step to the next visit: the next coefficients, or the next choice with the first ones; false, and nothing changes, at the last. To stand at the last is no error, so the answer is a bool.
@@ -42,6 +44,8 @@ fn next_visit(choice: &mut Choice, coefficients: &mut Coefficients) -> bool
     requires { choice.old.t ≡ coefficients.old.t }
     ensures value { Steps (level_visits choice.old.k choice.old.t coefficients.old.q) result (chosen choice.old, codes_of coefficients.old) (chosen choice.new, codes_of coefficients.new) }
     ensures same { (choice.new.k ≡ choice.old.k) × (choice.new.t ≡ choice.old.t) × (coefficients.new.q ≡ coefficients.old.q) × (coefficients.new.t ≡ coefficients.old.t) }
+    ensures rows { KeptChoice choice.old → KeptChoice choice.new }
+    ensures codes { KeptCoefficients coefficients.new }
 {
     if coefficients.step() {
         return true;
@@ -57,6 +61,7 @@ impl VisitCounter {
     // The counter at the first visit of a level; none where k is above 32, t is not from 1 to k, q is below 2, or the level has 2^64 - 1 visits or more.
     pub fn first(level: Level) -> Option<VisitCounter>
         ensures value { CounterOr level.k level.t level.q 0 result }
+        ensures kept { IfSome result KeptVisit }
     {
         let choice = Choice::first(level.k, level.t)?;
         let coefficients = Coefficients::first(level.q, level.t)?;
@@ -75,6 +80,7 @@ impl VisitCounter {
     // The counter at any visit of the level, which the visits before it are stepped through for; none where there is no such visit.
     pub fn at(level: Level, place: u64) -> Option<VisitCounter>
         ensures value { CounterOr level.k level.t level.q place result }
+        ensures kept { IfSome result KeptVisit }
     {
         let mut visit = VisitCounter::first(level)?;
         if place >= visit.left() {
@@ -92,6 +98,7 @@ impl VisitCounter {
     pub fn rows(&self) -> &[usize]
         ensures value { result.now ≡ (visit_of self.now).0 }
         ensures stands { (self.now.choice.k ≤ 32) × (self.now.choice.t ≤ self.now.choice.k) × (is_choice self.now.choice.k self.now.choice.t result.now ≡ true) }
+        ensures kept { KeptVisit self.now }
     {
         self.choice.rows()
     }
@@ -100,6 +107,7 @@ impl VisitCounter {
     pub fn coefficients(&self) -> &[u8]
         ensures value { result.now ≡ (visit_of self.now).1 }
         ensures stands { (self.now.coefficients.t ≤ 32) × (2 ≤ self.now.coefficients.q) × (listed (coefficient_lists self.now.coefficients.q self.now.coefficients.t) result.now ≡ true) }
+        ensures kept { KeptVisit self.now }
     {
         self.coefficients.codes()
     }
@@ -108,6 +116,7 @@ impl VisitCounter {
     pub fn level(&self) -> usize
         ensures value { result ≡ self.now.choice.t }
         ensures same { result ≡ self.now.coefficients.t }
+        ensures kept { KeptVisit self.now }
     {
         self.choice.size()
     }
@@ -117,16 +126,17 @@ impl VisitCounter {
         ensures value { result ≡ self.now.place }
         ensures stands { StandsAt (visits_of self.now) result (visit_of self.now) }
         ensures visit { IsVisit self.now.choice.k self.now.choice.t self.now.coefficients.q result (visit_of self.now) }
+        ensures kept { KeptVisit self.now }
     {
         self.place
     }
 
-    // How many visits of the level are left, this one counted; `kept` tells a caller what every counter keeps.
+    // How many visits of the level are left, this one counted.
     pub fn left(&self) -> u64
         ensures value { result ≡ size_of self.now - self.now.place }
         ensures some { 0 < result }
         ensures visits { result ≡ length (visits_of self.now) - self.now.place }
-        ensures kept { (self.now.choice.k ≤ 32) × (2 ≤ self.now.coefficients.q) × (self.now.size ≡ size_of self.now) }
+        ensures kept { KeptVisit self.now }
     {
         self.size - self.place
     }
@@ -136,6 +146,17 @@ impl VisitCounter {
         ensures value { result ≡ nat_lt (self.old.place + 1) (size_of self.old) }
         ensures last { result ≡ nat_lt (self.old.place + 1) (length (visits_of self.old)) }
         ensures after { CounterAt self.old.choice.k self.old.choice.t self.old.coefficients.q (self.old.place + (if result then 1 else 0)) self.new }
+        ensures kept { KeptVisit self.new }
+    {
+        self.advance()
+    }
+
+    // The step, with its proof: a wrong call of it is refused in `step` by what the clauses say.
+    fn advance(&mut self) -> bool
+        ensures value { result ≡ nat_lt (self.old.place + 1) (size_of self.old) }
+        ensures last { result ≡ nat_lt (self.old.place + 1) (length (visits_of self.old)) }
+        ensures after { CounterAt self.old.choice.k self.old.choice.t self.old.coefficients.q (self.old.place + (if result then 1 else 0)) self.new }
+        ensures kept { KeptVisit self.new }
     {
         if !next_visit(&mut self.choice, &mut self.coefficients) {
             return false;

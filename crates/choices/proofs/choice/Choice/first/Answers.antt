@@ -20,3 +20,6 @@ returns-clause-value c = (grind (arith, nat_tests), refl, refl, to_choice c.args
 
 pub returns-clause-all : goal.returns-clause-all
 returns-clause-all c = all_choices c.args.k c.args.t
+
+pub returns-clause-kept : goal.returns-clause-kept
+returns-clause-kept c = invariant_of-result c

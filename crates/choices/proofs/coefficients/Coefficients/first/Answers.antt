@@ -15,3 +15,6 @@ returns-clause-value c = (grind (arith, nat_tests), refl, refl, ones_stand c.arg
 
 pub returns-clause-all : goal.returns-clause-all
 returns-clause-all c = all_lists c.args.q c.args.t
+
+pub returns-clause-kept : goal.returns-clause-kept
+returns-clause-kept c = invariant_of-result c

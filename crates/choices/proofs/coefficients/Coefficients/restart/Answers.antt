@@ -7,3 +7,6 @@ invariant_of-self c = ones_kept-again _ _ _ c.self.invariant
 
 pub returns-clause-after : goal.returns-clause-after
 returns-clause-after c = rw (← c.self.view_is) (ones_stand-again _ _ _ c.self.invariant)
+
+pub returns-clause-kept : goal.returns-clause-kept
+returns-clause-kept c = invariant_of-self c

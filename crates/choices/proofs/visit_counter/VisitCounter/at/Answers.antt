@@ -15,4 +15,4 @@ returns c =
     let has = c.loop.invariant.0 in
     let here : c.loop.counter ≡ c.args.place = omega (arith, c.loop-test.false, c.loop.auto.counter-end) in
     let at : CounterAt k t q c.args.place c.loop.visit = subst (λ i. CounterAt k t q i c.loop.visit) here c.loop.invariant.1 in
-    record { value = (and_from (has_level k t q) _ has (lt-ltb c.args.place (level_size k t q) (omega (arith, at.4.0, length_level k t q (level_tells k t q has).1))), at) }
+    record { value = (and_from (has_level k t q) _ has (lt-ltb c.args.place (level_size k t q) (omega (arith, at.4.0, length_level k t q (level_tells k t q has).1))), at); kept = c.loop.invariant.2 }
