@@ -5,7 +5,8 @@ mod requests;
 
 use records::{Roll, TrailRecord, read_trail, write_trail};
 use requests::{Fault, Request};
-use std::io;
+use std::str::Split;
+use std::{io, str};
 
 // What slots hold before they are used, and bytes before they are written.
 const NO_RECORD: TrailRecord = TrailRecord {
@@ -15,6 +16,9 @@ const NO_RECORD: TrailRecord = TrailRecord {
 };
 
 const UNWRITTEN: u8 = 0xee;
+
+// How many bytes are turned into digits at a time.
+const PIECE: usize = 256;
 
 fn main(rt: HostRuntime) -> anyhow::Result<()> {
     for line in rt.lines(rt.alloc()) {
@@ -29,8 +33,7 @@ fn answer(rt: &HostRuntime, line: &str) -> anyhow::Result<()> {
     if line.is_empty() || line.starts_with('#') {
         return Ok(());
     }
-    let words: Vec<&str> = line.split(' ').collect(rt.alloc())?;
-    match Request::from_words(rt.alloc(), &words) {
+    match Request::from_line(rt.alloc(), line) {
         Ok(Request::Read { slots, bytes }) => read(rt, slots, &bytes),
         Ok(
             Request::Write {
@@ -56,26 +59,30 @@ fn read(rt: &HostRuntime, slots: usize, bytes: &[u8]) -> anyhow::Result<()> {
 }
 
 // Writes the trail of records into a buffer of this length, by way of so many slots.
-fn write(rt: &HostRuntime, slots: usize, length: usize, records: &[&str]) -> anyhow::Result<()> {
+fn write(
+    rt: &HostRuntime,
+    slots: usize,
+    length: usize,
+    records: Split<'_, char>,
+) -> anyhow::Result<()> {
     let mut slots = vec![in rt.alloc(); NO_RECORD; slots]?;
+    let mut roll = Roll::new(&mut slots);
+    if let Err(fault) = add_words(records, &mut roll) {
+        return Ok(println!(rt; "{fault}")?);
+    }
     let mut buffer = vec![in rt.alloc(); UNWRITTEN; length]?;
-    match write_words(records, &mut Roll::new(&mut slots), &mut buffer) {
+    match write_trail(&roll, &mut buffer) {
         Ok(()) => print_buffer(rt, &buffer)?,
-        Err(fault) => println!(rt; "{fault}")?,
+        Err(refusal) => println!(rt; "{refusal}")?,
     }
     Ok(())
 }
 
-// Adds the records of words to a roll and writes its trail into a buffer, up to the first fault.
-fn write_words(
-    words: &[&str],
-    roll: &mut Roll<'_, TrailRecord>,
-    buffer: &mut [u8],
-) -> Result<(), Fault> {
+// Adds the records of words to a roll, up to the first fault.
+fn add_words(words: Split<'_, char>, roll: &mut Roll<'_, TrailRecord>) -> Result<(), Fault> {
     for word in words {
         roll.add(word.parse()?)?;
     }
-    write_trail(roll, buffer)?;
     Ok(())
 }
 
@@ -88,10 +95,17 @@ fn print_records(rt: &HostRuntime, records: &[TrailRecord]) -> io::Result<()> {
     println!(rt; "")
 }
 
-// A buffer on one line, by its hexadecimal digits, `-` where it has no bytes.
-fn print_buffer(rt: &HostRuntime, buffer: &[u8]) -> io::Result<()> {
+// A buffer on one line, by its hexadecimal digits, `-` where it has no bytes. The digits are written in pieces, so that they take no memory.
+fn print_buffer(rt: &HostRuntime, buffer: &[u8]) -> anyhow::Result<()> {
     if buffer.is_empty() {
-        return println!(rt; "buffer -");
+        return Ok(println!(rt; "buffer -")?);
     }
-    println!(rt; "buffer {}", hex::encode(rt.alloc(), buffer)?)
+    print!(rt; "buffer ")?;
+    let mut digits = [0; 2 * PIECE];
+    for piece in buffer.chunks(PIECE) {
+        let digits = &mut digits[..2 * piece.len().min(PIECE)];
+        hex::encode_to_slice(piece, digits)?;
+        print!(rt; "{}", str::from_utf8(digits)?)?;
+    }
+    Ok(println!(rt; "")?)
 }

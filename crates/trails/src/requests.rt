@@ -2,15 +2,16 @@
 ghost use Rattle.std.specs.Prelude.{◌≤◌, IfOk};
 
 use hex::FromHexError;
-use records::{ParseRecordError, RollRefusal, TrailRefusal};
+use records::{ParseRecordError, RollRefusal};
 use std::alloc::Global;
 use std::num::ParseIntError;
+use std::str::Split;
 use thiserror::Error;
 
 // The most slots or bytes that a request may ask for.
 const MOST: usize = 65_536;
 
-// A request, whose records are read as they are added.
+// A request, whose records are read as they are added: the words of a line are taken one by one, so that a long line costs no more than its bytes.
 #[derive(Drop)]
 pub(crate) enum Request<'a> {
     // `read SLOTS HEX`
@@ -22,7 +23,7 @@ pub(crate) enum Request<'a> {
     Write {
         slots: usize,
         length: usize,
-        records: &'a [&'a str],
+        records: Split<'a, char>,
     },
 }
 
@@ -33,9 +34,7 @@ pub(crate) enum Fault {
     Unknown,
     #[error("{0}")]
     Roll(#[from] RollRefusal),
-    #[error("{0}")]
-    Trail(#[from] TrailRefusal),
-    #[error("out of memory")]
+    #[error("memory allocation failed")]
     OutOfMemory,
 }
 
@@ -61,20 +60,21 @@ impl From<FromHexError> for Fault {
 }
 
 impl<'a> Request<'a> {
-    // The request of a line's words.
-    pub(crate) fn from_words(alloc: Global, words: &'a [&'a str]) -> Result<Request<'a>, Fault> {
-        match *words {
-            ["read", slots, hex] => {
+    // The request of a line.
+    pub(crate) fn from_line(alloc: Global, line: &'a str) -> Result<Request<'a>, Fault> {
+        let mut words = line.split(' ');
+        match (words.next(), words.next(), words.next()) {
+            (Some("read"), Some(slots), Some(hex)) if words.next().is_none() => {
                 Ok(Request::Read {
                     slots: number_of(slots)?,
                     bytes: bytes_of(alloc, hex)?,
                 })
             }
-            ["write", slots, length, ref records @ ..] => {
+            (Some("write"), Some(slots), Some(length)) => {
                 Ok(Request::Write {
                     slots: number_of(slots)?,
                     length: number_of(length)?,
-                    records,
+                    records: words,
                 })
             }
             _ => Err(Fault::Unknown),
@@ -94,12 +94,15 @@ fn number_of(word: &str) -> Result<usize, Fault>
     }
 }
 
-// The bytes that pairs of hexadecimal digits write, in lower case, `-` for none; `decode` alone takes capitals, and nothing for none.
+// The bytes that pairs of hexadecimal digits write, in lower case, `-` for none; `decode` alone takes capitals, and asks for memory before it looks at a digit.
 fn bytes_of(alloc: Global, hex: &str) -> Result<Vec<u8>, Fault> {
     if hex == "-" {
         return Ok(Vec::new(alloc));
     }
-    if hex.is_empty() || hex.bytes().any(|b| b.is_ascii_uppercase()) {
+    if hex.is_empty()
+        || hex.len() % 2 != 0
+        || !hex.bytes().all(|b| matches!(b, b'0'..=b'9' | b'a'..=b'f'))
+    {
         return Err(Fault::Unknown);
     }
     Ok(hex::decode(alloc, hex)?)
