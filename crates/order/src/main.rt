@@ -20,20 +20,32 @@ enum OrderError {
     Output(#[from] io::Error),
 }
 
+// How many words of a request are kept: one more than it may have tells that there are too many, and the others would only take memory.
+const KEPT: usize = 4;
+
 fn main(rt: HostRuntime) -> anyhow::Result<()> {
-    let words: Vec<String> = env::args(&rt)?.skip(1).collect(rt.alloc())?;
-    // An empty line stands before all but the first.
-    for (i, request) in words.split(|word| word.as_str() == "and").enumerate() {
-        if i > 0 {
+    let mut request = Vec::new(rt.alloc());
+    // A loop: `split` would need the words in a second list.
+    for word in env::args(&rt)?.skip(1) {
+        if word.as_str() == "and" {
+            report(&rt, &request)?;
+            // An empty line stands between two answers.
             println!(rt; "")?;
-        }
-        match answer(&rt, request) {
-            Ok(()) => {}
-            Err(OrderError::Output(error)) => return Err(error.into()),
-            Err(refusal) => println!(rt; "refused: {refusal}")?,
+            request.clear();
+        } else if request.len() < KEPT {
+            request.push(word)?;
         }
     }
-    Ok(())
+    report(&rt, &request)
+}
+
+// Answers one request, or says why it is refused.
+fn report(rt: &HostRuntime, words: &[String]) -> anyhow::Result<()> {
+    match answer(rt, words) {
+        Ok(()) => Ok(()),
+        Err(OrderError::Output(error)) => Err(error.into()),
+        Err(refusal) => Ok(println!(rt; "refused: {refusal}")?),
+    }
 }
 
 // Answers one request: K and T, or K, T and Q.
