@@ -1,14 +1,10 @@
 -- The numbers of a header: how a word is read, and that a number and its word determine each other.
-use Rattle.std.proofs.Common.{◌≡◌, ℕ, zero, suc, ◌^◌, ◌<◌, ◌≤◌, Bool, true, false, cond, not, ◌&&◌, eqb, ltb, leb, List, [], ◌∷◌, length, get_or, Some, None, Result, decimal, sym, refl, ap, ◌∙◌, suc-le-suc, zero-le, arith, rules}
+use Rattle.std.proofs.Common.{◌≡◌, ℕ, zero, suc, ◌^◌, ◌<◌, ◌≤◌, Bool, true, false, cond, not, ◌&&◌, eqb, ltb, leb, List, [], ◌∷◌, length, get_or, Some, None, decimal, sym, refl, ap, ◌∙◌, suc-le-suc, zero-le, arith, rules}
 use Rattle.std.proofs.lemmas.Bool.{and_parts, and_from, lt-ltb, le-leb, ltb-true, leb-true, ne_eqb, eqb-false, not-true, not_from_false, cond-true}
-use Rattle.std.proofs.lemmas.Str.Parse.{IsNumeralModel, numerals_by_fold, digits_value_short, parse_gives}
-use Rattle.std.proofs.lemmas.Str.{IsUtf8-from_ascii}
-use Rattle.std.proofs.lemmas.Str.Ascii.{IsAscii-nil, IsAscii-cons}
+use Rattle.std.proofs.lemmas.Str.Parse.{IsNumeralModel, numerals_by_fold, digits_value_short}
 use Rattle.std.proofs.lemmas.Fmt.{decimal_digit, decimal-digits_value, digits_value-decimal, digits_decimal, decimal_nonempty, first_decimal, length-decimal-le}
 use Rattle.std.specs.List.{list_all}
-use Rattle.std.specs.Result.{result_ok}
-use Rattle.std.specs.Str.{all_ascii_digits, IsAscii, IsUtf8}
-use Rattle.std.specs.Str.Parse.{ParsesUnsigned}
+use Rattle.std.specs.Str.{all_ascii_digits}
 use Rattle.std.specs.Char.{is_ascii_digit}
 use Rattle.entries.specs.Numbers.{digits_value, is_number, number_of}
 
@@ -36,24 +32,6 @@ number_parts w t =
     let b = and_parts (leb (length w) 3) _ a.1 in
     let c = and_parts (not (eqb (get_or w 0 0) 48)) _ b.1 in
     (ltb-true _ _ a.0, leb-true _ _ b.0, eqb-false (get_or w 0 0) 48 (not-true _ c.0), c.1)
-
-digits_ascii : (w : List ℕ) → all_ascii_digits w ≡ true → IsAscii w
-digits_ascii [] t = IsAscii-nil
-digits_ascii (b ∷ w) t =
-    let parts = and_parts (is_ascii_digit b) (all_ascii_digits w) t in
-    let high = leb-true b 57 (and_parts (leb 48 b) (leb b 57) parts.0).1 in
-    IsAscii-cons b w (omega arith) (digits_ascii w parts.1)
-
--- a number's word is a text
-pub number_text : (w : List ℕ) → is_number w ≡ true → IsUtf8 w
-number_text w t = IsUtf8-from_ascii w (digits_ascii w (number_parts w t).3)
-
--- a number's word is read as its value
-pub number_parsed : {E : Type 0} (w : List ℕ) (r : Result ℕ E) → is_number w ≡ true → ParsesUnsigned 64 10 w r → result_ok r ≡ number_of w
-number_parsed w r t h =
-    let parts = number_parts w t in
-    let small = digits_value_short own w 3 parts.3 parts.1 in
-    ap result_ok (parse_gives own 64 w r h parts.3 parts.0 (omega arith)) ∙ sym (cond-true (is_number w) _ _ t)
 
 some_test : (b : Bool) (x v : ℕ) → cond b (Some x) None ≡ Some v → b ≡ true
 some_test true x v e = refl

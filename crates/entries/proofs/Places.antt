@@ -90,7 +90,7 @@ part_stands ls l i (Part.Gap n c) within here is numbered =
     (numbered.0, (omega (arith, numbered.0), numbered.1, ap (λ (j : ℕ). get_or ls j []) (omega (arith, numbered.0)) ∙ here ∙ is))
 
 -- what a reader hands out stands in its text
-placed : (r : PartReader) (a : Result (Option Part) TextRefusal) → handed a ≡ next_part r.due (left r) (r.passed + 1) → Numbered (r.passed + 1) a → Placed (lines (text_of r)) (r.passed + 1) a
+pub placed : (r : PartReader) (a : Result (Option Part) TextRefusal) → handed a ≡ next_part r.due (left r) (r.passed + 1) → Numbered (r.passed + 1) a → Placed (lines (text_of r)) (r.passed + 1) a
 placed r (Ok (Some p)) e numbered =
     let first = first-line r.due (left r) (r.passed + 1) (content p) e in
     let here : get_or (lines (text_of r)) r.passed [] ≡ get_or (left r) 0 [] =

@@ -40,7 +40,8 @@ pub struct HeaderWords<'t> {
 }
 
 impl HeaderWords<'_> {
-    // Whether one of the words is empty.
+    // Whether one of the words is empty. Inlined, so that the words are not copied.
+    #[inline(always)]
     fn has_empty(&self) -> bool
         ensures value { not result ≡ none_empty (word_list self.now) }
     {
@@ -126,7 +127,8 @@ fn field_in(word: Word<'_>, line: usize) -> Result<FieldName, TextRefusal>
     })
 }
 
-// The symbol weight that a word of a line names beside a field; its error has the line and the column.
+// The symbol weight that a word of a line names beside a field; its error has the line and the column. Inlined, as the word is copied to it.
+#[inline(always)]
 fn weight_in(word: Word<'_>, field: FieldName, line: usize) -> Result<WeightName, TextRefusal>
     ensures value { result ≡ ok_or (weight_named word.entry.bytes.now field) (UnknownWeight line word.entry.column) }
 {

@@ -88,7 +88,8 @@ impl<'t> PartReader<'t> {
         }))
     }
 
-    // The symbols of the row that is due.
+    // The symbols of the row that is due. Inlined, since the call costs as much as a short row.
+    #[inline(always)]
     #[tactic(auto, using(crate::proofs::NextParts::row_missing))]
     pub(crate) fn next_row(&mut self, header: Header, after: usize) -> Result<&'t [u8], TextRefusal>
         requires { self.old.due ≡ Due.Row header after }
