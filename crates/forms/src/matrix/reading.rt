@@ -1,16 +1,9 @@
 // What is read of a matrix: its symbols and rows, and where a row or a column has its first symbol that is not 0.
-ghost use Rattle.std.specs.Prelude.{◌≡◌, ◌<◌, true, not, length, position, MatchOption, ◌==◌};
+ghost use Rattle.std.specs.Prelude.{◌≡◌, ◌<◌, true, length, MatchOption};
 ghost use Rattle.theory.specs.Codes.{is_zero};
 ghost use Rattle.forms.specs.Matrices.{row_at, symbol_at, ZeroIn, FirstPivot};
 
 use super::MatrixView;
-
-// The place of the first symbol of a word that is not 0.
-fn first_nonzero(word: &[u8]) -> Option<usize>
-    ensures value { result ≡ position (λ a. not (a == 0)) word.now }
-{
-    word.iter().position(|a| *a != 0)
-}
 
 impl<'a> MatrixView<'a> {
     // A row.
@@ -44,6 +37,6 @@ impl<'a> MatrixView<'a> {
         requires { i < self.now.k }
         ensures value { MatchOption result (is_zero (row_at self.now.n self.now.codes.now i) ≡ true) (λ c. (c < self.now.n) × (0 < symbol_at self.now.n self.now.codes.now i c)) }
     {
-        first_nonzero(self.row(i))
+        (0..self.n).find(|c| self.symbol(i, *c) != 0)
     }
 }

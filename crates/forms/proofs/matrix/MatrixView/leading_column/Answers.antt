@@ -1,21 +1,31 @@
 -- The column found is the first, and a row with no symbol but 0 is zero.
-use Rattle.std.proofs.Common.{◌≡◌, ℕ, ◌<◌, Bool, true, eqb, not, List, length, get_or, replicate, position, Option, Some, None, MatchOption, sym, ap, ◌∙◌, arith}
+use Rattle.std.proofs.Common.{◌≡◌, ℕ, ◌<◌, true, eqb, not, List, length, replicate, refl, Option, Some, None, sym, ◌∙◌, rules, arith}
+use Rattle.std.specs.List.{find, range_with_len}
+use Rattle.std.specs.Option.{option_map, MatchOption}
+use Rattle.std.proofs.lemmas.Iterator.{YieldsList-from_range}
+use Rattle.std.proofs.lemmas.Iterator.Search.{find_from_yields_List}
 use Rattle.std.proofs.lemmas.List.{ext_get_or, length-replicate}
-use Rattle.std.proofs.lemmas.List.Quantifiers.{position-Some}
 use Rattle.theory.specs.Codes.{is_zero}
 use Rattle.theory.proofs.Lists.Zeros.{get_or_zeros, is_zero_decides}
-use Rattle.forms.proofs.Ranges.{fails-all, zero_where, positive_where}
-use Rattle.forms.specs.Matrices.{row_at}
+use Rattle.forms.specs.Matrices.{row_at, symbol_at}
+use Rattle.forms.proofs.Flat.{has_row, length-row}
+use Rattle.forms.proofs.Ranges.{NonePasses, FirstPasses, found_in_range, zero_where, positive_where}
 use Rattle.forms.proofs.matrix.MatrixView.leading_column.Goals as goal
 
-abbrev nonzero : ℕ → Bool
-nonzero x = not (eqb x 0)
-
-leading : (row : List ℕ) (n : ℕ) (r : Option ℕ) → length row ≡ n → r ≡ position nonzero row → MatchOption r (is_zero row ≡ true) (λ c. (c < n) × (0 < get_or row c 0))
-leading row n None long e = (is_zero_decides row).1 (ext_get_or 0 row (replicate (length row) 0) (sym (length-replicate {A = ℕ} (length row) 0)) (λ d l. zero_where (get_or row d 0) (fails-all nonzero row 0 e d l) ∙ sym (get_or_zeros (length row) d)))
-leading row n (Some c) long e = let found = position-Some nonzero row c 0 (sym e) in (omega (arith, found.0), positive_where (get_or row c 0) found.1)
+-- The first column that passes the test is the leading one.
+leading : (n : ℕ) (codes : List ℕ) (i : ℕ) (r : Option ℕ)
+    → length (row_at n codes i) ≡ n
+    → MatchOption r (NonePasses (λ c. not (eqb (symbol_at n codes i c) 0)) 0 n) (FirstPasses (λ c. not (eqb (symbol_at n codes i c) 0)) 0 n)
+    → MatchOption r (is_zero (row_at n codes i) ≡ true) (λ c. (c < n) × (0 < symbol_at n codes i c))
+leading n codes i None long none =
+    let row : List ℕ = row_at n codes i in
+    (is_zero_decides row).1 (ext_get_or 0 row (replicate (length row) 0) (sym (length-replicate {A = ℕ} (length row) 0)) (λ d l. zero_where (symbol_at n codes i d) (none d (omega arith) (omega (arith, l, long))) ∙ sym (get_or_zeros (length row) d)))
+leading n codes i (Some c) long found = (omega (arith, found.1), positive_where (symbol_at n codes i c) found.2)
 
 pub returns : goal.returns
 returns c =
     let m = c.args.self.now in
-    record { value = leading (row_at m.n m.codes.now c.args.i) m.n c.first_nonzero.result (ap length (sym c.row.ensures.value) ∙ c.row.ensures.long) (c.first_nonzero.ensures.value ∙ ap (position nonzero) c.row.ensures.value) }
+    let i = c.args.i in
+    let is : option_map (λ x. x) c.find.result ≡ find (λ d. not (eqb (symbol_at m.n m.codes.now i d) 0)) (range_with_len 0 m.n) =
+    find_from_yields_List (λ d. not (eqb (symbol_at m.n m.codes.now i d) 0)) _ _ c.find.result c.find.ensures.ran (YieldsList-from_range 0 m.n m.n refl (omega arith)) (λ x b q k. search rules) in
+    record { value = leading m.n m.codes.now i c.find.result (length-row m.n m.codes.now i (has_row m.n m.k m.codes.now i m.whole c.requires)) (found_in_range (λ d. not (eqb (symbol_at m.n m.codes.now i d) 0)) 0 m.n c.find.result is) }
