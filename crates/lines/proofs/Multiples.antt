@@ -11,7 +11,7 @@ use Rattle.fields.proofs.WeightLists.{word_most}
 use Rattle.lines.specs.LineWeights.{weighed}
 
 -- the least of a list with one more at its end
-least_push : (xs : List ℕ) (x m : ℕ) → least (xs ++ x ∷ []) m ≡ min (least xs m) x
+pub least_push : (xs : List ℕ) (x m : ℕ) → least (xs ++ x ∷ []) m ≡ min (least xs m) x
 least_push [] x m = omega arith
 least_push (y ∷ xs) x m = omega (arith, least_push xs x m)
 
@@ -28,10 +28,10 @@ module _ (f : FieldMeaning) (w : WeightMeaning) (u : List ℕ) where
   added_weights c r e = omega (arith, e, added c 0 u)
 
   -- the weights of the first n multiples
-  abbrev first-weights : ℕ → List ℕ
+  abbrev pub first-weights : ℕ → List ℕ
   first-weights n = map (weighed w) (map (λ c. times f c u) (range_with_len 1 n))
 
-  first-weights-more : (i : ℕ) → first-weights (i + 1) ≡ first-weights i ++ weighed w (times f (i + 1) u) ∷ []
+  pub first-weights-more : (i : ℕ) → first-weights (i + 1) ≡ first-weights i ++ weighed w (times f (i + 1) u) ∷ []
   first-weights-more i = ap (map (weighed w)) (map-range_with_len_more (λ c. times f c u) 1 i (i + 1) (omega arith)) ∙ map_push (weighed w) (map (λ c. times f c u) (range_with_len 1 i)) (times f (i + 1) u)
 
   -- the first i weights stand in an array of 15, and m is the least of them and of the weight of the word
@@ -53,17 +53,17 @@ module _ (f : FieldMeaning) (w : WeightMeaning) (u : List ℕ) where
 
   -- the weights of a word of up to 64 symbols and of its multiples are exact
   module _ (laws : WeightLaws w) (few : length u ≤ 64) where
-    weighed-word : weighed w u ≡ weigh w u
+    pub weighed-word : weighed w u ≡ weigh w u
     weighed-word = omega (arith, word_most w laws u)
 
-    weighed_multiple : (c : ℕ) → weighed w (times f c u) ≡ weigh w (times f c u)
+    pub weighed_multiple : (c : ℕ) → weighed w (times f c u) ≡ weigh w (times f c u)
     weighed_multiple c = omega (arith, word_most w laws (times f c u), length-times f c u)
 
     weighed-list : (cs : List ℕ) → map (weighed w) (map (λ c. times f c u) cs) ≡ map (weigh w) (map (λ c. times f c u) cs)
     weighed-list [] = refl
     weighed-list (c ∷ cs) = ap₂ ◌∷◌ (weighed_multiple c) (weighed-list cs)
 
-    weighed-multiples : map (weighed w) (multiples f u) ≡ map (weigh w) (multiples f u)
+    pub weighed-multiples : map (weighed w) (multiples f u) ≡ map (weigh w) (multiples f u)
     weighed-multiples = weighed-list (range_with_len 1 (f.order - 1))
 
     -- with the last factor, all multiples are weighed

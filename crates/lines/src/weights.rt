@@ -23,7 +23,8 @@ impl LineWeights {
     }
 }
 
-// The weight of a multiple of a word, which stops at the largest number of 32 bits. One function over a closure for this and `word_weight` was tried, and the check proved neither use.
+// The weight of a multiple of a word, which stops at the largest number of 32 bits. One function over a closure for this and `word_weight` was tried, and the check proved neither use. Inlined by a hint, since without it some fields take a third longer.
+#[inline(always)]
 fn multiple_weight<F: Field, W: SymbolWeight>(field: &F, weight: &W, factor: u8, word: &[u8]) -> u32
     ensures value { result ≡ weighed (W.SymbolWeight.meaning weight.now) (times (F.Field.meaning field.now) factor word.now) }
 {
