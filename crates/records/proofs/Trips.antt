@@ -10,20 +10,20 @@ use Rattle.records.specs.declared.trail.TrailRecord.{TrailRecord}
 use Rattle.records.specs.Trails.{in_range, trail, records_in, first_outside, write_fault, bytes_after, trail_fault, read_fault, records_after, first_fault, short_fault}
 
 -- the number of four bytes
-visits-back : (v : ℕ) → v % 256 + 256 * (v / 256 % 256) + 65536 * (v / 65536 % 256 + 256 * (v / 16777216)) ≡ v
+pub visits-back : (v : ℕ) → v % 256 + 256 * (v / 256 % 256) + 65536 * (v / 65536 % 256 + 256 * (v / 16777216)) ≡ v
 visits-back v = omega arith
 
-bytes_back : (b c d e : ℕ) → b < 256 → c < 256 → d < 256 → e < 256 → ((b + 256 * c + 65536 * (d + 256 * e)) % 256 ≡ b) × ((b + 256 * c + 65536 * (d + 256 * e)) / 256 % 256 ≡ c) × ((b + 256 * c + 65536 * (d + 256 * e)) / 65536 % 256 ≡ d) × ((b + 256 * c + 65536 * (d + 256 * e)) / 16777216 ≡ e)
+pub bytes_back : (b c d e : ℕ) → b < 256 → c < 256 → d < 256 → e < 256 → ((b + 256 * c + 65536 * (d + 256 * e)) % 256 ≡ b) × ((b + 256 * c + 65536 * (d + 256 * e)) / 256 % 256 ≡ c) × ((b + 256 * c + 65536 * (d + 256 * e)) / 65536 % 256 ≡ d) × ((b + 256 * c + 65536 * (d + 256 * e)) / 16777216 ≡ e)
 bytes_back b c d e hb hc hd he = (omega arith, omega arith, omega arith, omega arith)
 
 -- a written trail reads back as its records
-records-back : (rs : List TrailRecord) → records_in (trail rs) ≡ rs
+pub records-back : (rs : List TrailRecord) → records_in (trail rs) ≡ rs
 records-back [] = refl
 records-back (r ∷ rs) =
     ap (λ (v : ℕ). record { form = r.form; visits = v; level = r.level } ∷ records_in (trail rs)) (visits-back r.visits) ∙ ap (λ (us : List TrailRecord). r ∷ us) (records-back rs)
 
 -- six bytes a record
-length-trail : (rs : List TrailRecord) → length (trail rs) ≡ 6 * length rs
+pub length-trail : (rs : List TrailRecord) → length (trail rs) ≡ 6 * length rs
 length-trail [] = refl
 length-trail (r ∷ rs) = omega (arith, length-trail rs)
 
@@ -48,7 +48,7 @@ never : {A B : Type 0} (x : B) → Some x ≡ None → A
 never x e = cc
 
 -- what is read without a fault is in range
-read-in_range : (slots i : ℕ) (rs : List TrailRecord) → trail_fault slots i rs ≡ None → first_outside i rs ≡ None
+pub read-in_range : (slots i : ℕ) (rs : List TrailRecord) → trail_fault slots i rs ≡ None → first_outside i rs ≡ None
 read-in_range slots i [] e = refl
 read-in_range slots i (r ∷ rs) e =
     ⊎_elim
@@ -72,12 +72,12 @@ read-well slots bytes e =
     (cases_Bool (eqb (length bytes % 6) 0))
 
 -- what reading a written trail refuses is what its records are refused for
-read_fault-trail : (slots : ℕ) (rs : List TrailRecord) → read_fault slots (trail rs) ≡ trail_fault slots 0 rs
+pub read_fault-trail : (slots : ℕ) (rs : List TrailRecord) → read_fault slots (trail rs) ≡ trail_fault slots 0 rs
 read_fault-trail slots rs =
     cond-true (eqb (length (trail rs) % 6) 0) _ _ (eq-eqb _ _ (omega (arith, length-trail rs))) ∙ ap (trail_fault slots 0) (records-back rs)
 
 -- what writing a trail that was read refuses is a buffer too short for it
-write_fault-read : (slots size : ℕ) (bytes : List ℕ) (rs : List TrailRecord) → None ≡ read_fault slots bytes → rs ≡ records_in bytes → trail rs ≡ bytes → write_fault rs size ≡ short_fault (length bytes) size
+pub write_fault-read : (slots size : ℕ) (bytes : List ℕ) (rs : List TrailRecord) → None ≡ read_fault slots bytes → rs ≡ records_in bytes → trail rs ≡ bytes → write_fault rs size ≡ short_fault (length bytes) size
 write_fault-read slots size bytes rs e is back =
     let good : first_outside 0 rs ≡ None = ap (first_outside 0) is ∙ read-in_range slots 0 (records_in bytes) (read-well slots bytes e) in
     ap (write_choice rs size) good ∙ ap (λ (m : ℕ). short_fault m size) (sym (length-trail rs) ∙ ap length back)
